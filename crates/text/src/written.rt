@@ -1,0 +1,1 @@
+// Lines that are written for a reader.
