@@ -1,3 +1,4 @@
 mod Rows
 mod Commas
 mod Spelled
+mod Placed
