@@ -1,4 +1,4 @@
-mod Rows
-mod Commas
-mod Spelled
-mod Placed
+pub mod Rows
+pub mod Commas
+pub mod Spelled
+pub mod Placed

@@ -1,0 +1,35 @@
+-- Which character stands for which sort of line: one table.
+use Prim.Native.Nat.{ℕ}
+use mathlib.Core.List.{List, [], _∷_}
+use mathlib.Core.Bool.{true, false, cond}
+use lib.Dec.{eqb}
+use lib.Chars.{codes}
+use Rattle.std.specs.declared.option.Option.{Option}
+use Rattle.std.specs.declared.option.Option.the-variants.{Some, None}
+use Rattle.sheet.specs.declared.sorts.Operator.the-variants.{Plus, Minus, Times, Over}
+use Rattle.sheet.specs.declared.sorts.Relation.the-variants.{Equal, Less}
+use Rattle.sheet.specs.declared.sorts.Sort.{Sort}
+use Rattle.sheet.specs.declared.sorts.Sort.the-variants.{Global, Constant, Simple, Element, Operation, Comparison, Choice, Truth, Negation, Implication, Assignment, Sequence, Branch, Call, NewSimple, NewArray, System, Procedure, Join}
+
+-- the characters
+abbrev pub letters : List ℕ
+letters = codes "gkxa+-*/=<?tf!>s;ipvred&"
+
+-- the sorts, in the order of their characters
+abbrev pub sorts : List Sort
+sorts =
+    Global ∷ Constant ∷ Simple ∷ Element
+    ∷ Operation Plus ∷ Operation Minus ∷ Operation Times ∷ Operation Over
+    ∷ Comparison Equal ∷ Comparison Less ∷ Choice
+    ∷ Truth true ∷ Truth false ∷ Negation ∷ Implication
+    ∷ Assignment ∷ Sequence ∷ Branch ∷ Call ∷ NewSimple ∷ NewArray ∷ System ∷ Procedure ∷ Join ∷ []
+
+-- what stands in the second list at the place of a number in the first
+abbrev pub beside : {A : Type 0} → List ℕ → List A → ℕ → Option A
+beside [] ys c = None
+beside (x ∷ xs) [] c = None
+beside (x ∷ xs) (y ∷ ys) c = cond (eqb c x) (Some y) (beside xs ys c)
+
+-- the sort that a character stands for
+abbrev pub sort-of : ℕ → Option Sort
+sort-of c = beside letters sorts c
