@@ -35,7 +35,7 @@ pub lines-none : (room n : ℕ) → from-line room n [] ≡ ended None
 unfolding from-line
 lines-none room n = refl
 
-lines-step : (room n : ℕ) (row : Row) (rs : List Row) → from-line room n (row ∷ rs) ≡ then-outcome n (reading room n row) (from-line room (n + 1) rs)
+pub lines-step : (room n : ℕ) (row : Row) (rs : List Row) → from-line room n (row ∷ rs) ≡ then-outcome n (reading room n row) (from-line room (n + 1) rs)
 unfolding from-line
 lines-step room n row rs = rw add-one refl
 

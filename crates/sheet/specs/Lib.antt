@@ -3,3 +3,4 @@ pub mod Refusals
 pub mod Ranges
 pub mod Lines
 pub mod Reading
+pub mod Verdict

@@ -5,9 +5,13 @@ use crate::refusals::Cause;
 use crate::refusals::Refusal;
 use text::cutting::cut;
 ghost use mathlib.Core.Path.{_≡_};
+ghost use Prim.Native.Nat.{ℕ};
 ghost use lib.ListN.{length};
+ghost use Rattle.std.specs.declared.result.Result.{Result};
+ghost use Rattle.sheet.specs.declared.refusals.Refusal.{Refusal};
 ghost use Rattle.text.specs.Lines.{rows};
 ghost use Rattle.sheet.specs.Reading.{outcome, from-line, answer, filled};
+ghost use Rattle.sheet.specs.Verdict.{Verdict};
 
 pub const MOST_BYTES: usize = 65536;
 pub const MOST_LINES: usize = 2048;
@@ -15,6 +19,8 @@ pub const MOST_LINES: usize = 2048;
 // Reads the lines of a text into the records, one a line, and gives their number. At a refusal the records of the lines before it are filled.
 pub fn read_lines(text: &[u8], records: &mut [Record]) -> Result<usize, Refusal>
     ensures answer { λ r. ⌜ r ≡ answer (outcome (length (now (records .entry))) (now (text .entry))) ⌝ }
+    ensures right { λ r. ⌜ Verdict (length (now (records .entry))) (now (text .entry)) r ⌝ }
+    ensures only { λ r. ⌜ ((s : Result ℕ Refusal) → Verdict (length (now (records .entry))) (now (text .entry)) s → s ≡ r) ⌝ }
     ensures left { λ _. ⌜ now (records .exit) ≡ filled (outcome (length (now (records .entry))) (now (text .entry)) .lines) (now (records .entry)) ⌝ }
 {
     if text.len() == 0 || text.len() > MOST_BYTES {
