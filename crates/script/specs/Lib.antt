@@ -1,0 +1,4 @@
+pub mod Script
+pub mod Tree
+pub mod Names
+pub mod Apart

@@ -1,0 +1,1 @@
+// The text of a script: what its lines mean together.
