@@ -6,8 +6,8 @@ use lib.Dec.{eqb}
 use lib.ListN.{length}
 use Rattle.std.specs.declared.option.Option.{Option}
 use Rattle.std.specs.declared.option.Option.the-variants.{Some, None}
-use Rattle.sheet.specs.declared.records.Line.{Line}
-use Rattle.sheet.specs.declared.records.Line.the-variants as Line
+use Rattle.lines.specs.declared.records.Line.{Line}
+use Rattle.lines.specs.declared.records.Line.the-variants as Line
 use Rattle.script.specs.Script.{Place, simple, element, fixed, Expression, constant, word-of, work, choose, Condition, truth, compared, negated, implies}
 use Rattle.script.specs.Script.{Statement, assign, both, branch, call, new-simple, new-array, system, Declarations, procedure, joined, only}
 use Rattle.script.specs.Names.{Names, nothing, cell, cells}

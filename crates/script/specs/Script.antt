@@ -3,8 +3,8 @@ use Prim.Native.Nat.{ℕ}
 use mathlib.Core.Bool.{Bool, true, false}
 use lib.IntN.{ℤ}
 use lib.Dec.{eqb}
-use Rattle.sheet.specs.declared.sorts.Operator.{Operator}
-use Rattle.sheet.specs.declared.sorts.Relation.{Relation}
+use Rattle.lines.specs.declared.sorts.Operator.{Operator}
+use Rattle.lines.specs.declared.sorts.Relation.{Relation}
 
 -- what words are worked from
 mutual

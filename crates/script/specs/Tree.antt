@@ -2,8 +2,8 @@
 use Prim.Native.Nat.{ℕ, zero, suc}
 use mathlib.Core.List.{List, [], _∷_, _++_}
 use lib.ListN.{getD}
-use Rattle.sheet.specs.declared.records.Line.{Line}
-use Rattle.sheet.specs.declared.records.Line.the-variants as Line
+use Rattle.lines.specs.declared.records.Line.{Line}
+use Rattle.lines.specs.declared.records.Line.the-variants as Line
 use Rattle.script.specs.Script.{Place, simple, element, Expression, constant, word-of, work, choose, Condition, truth, compared, negated, implies}
 use Rattle.script.specs.Script.{Statement, assign, both, branch, call, new-simple, new-array, system, Declarations, procedure, joined}
 

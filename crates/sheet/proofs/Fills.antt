@@ -17,12 +17,13 @@ use Rattle.std.proofs.shelf.Lists.{append-nil, length-set, length-push, length-
 use Rattle.text.specs.Cutting.{Absent, Cut-at}
 use Rattle.text.specs.Lines.{Row, closed, unclosed, in-front, rows}
 use Rattle.text.proofs.Rows.{rows-cut, rows-unclosed}
-use Rattle.sheet.specs.declared.records.Line.{Line}
-use Rattle.sheet.specs.declared.records.Record.{Record}
-use Rattle.sheet.specs.declared.refusals.Cause.{Cause}
-use Rattle.sheet.specs.declared.refusals.Cause.the-variants.{Form, Room}
-use Rattle.sheet.specs.declared.refusals.Refusal.{Refusal}
-use Rattle.sheet.specs.Reading.{line-reading, row-reading, reading, Outcome, refused, then-outcome, from-line, or-count, answer, unresolved, filled}
+use Rattle.lines.specs.declared.records.Line.{Line}
+use Rattle.lines.specs.declared.records.Record.{Record}
+use Rattle.lines.specs.declared.refusals.Cause.{Cause}
+use Rattle.lines.specs.declared.refusals.Cause.the-variants.{Form, Room}
+use Rattle.lines.specs.declared.refusals.Refusal.{Refusal}
+use Rattle.lines.specs.Reading.{line-reading}
+use Rattle.sheet.specs.Reading.{row-reading, reading, Outcome, refused, then-outcome, from-line, or-count, answer, unresolved, filled}
 
 -- lines before those of an outcome
 abbrev pub after : List Line → Outcome → Outcome

@@ -15,10 +15,10 @@ use Rattle.std.specs.declared.result.Result.the-variants.{Ok, Err}
 use Rattle.std.proofs.shelf.Maps.{nth-past}
 use Rattle.std.proofs.shelf.Tests.{cases-lt}
 use Rattle.text.specs.Lines.{Row, rows}
-use Rattle.sheet.specs.declared.records.Line.{Line}
-use Rattle.sheet.specs.declared.refusals.Cause.{Cause}
-use Rattle.sheet.specs.declared.refusals.Cause.the-variants.{TextSize}
-use Rattle.sheet.specs.declared.refusals.Refusal.{Refusal}
+use Rattle.lines.specs.declared.records.Line.{Line}
+use Rattle.lines.specs.declared.refusals.Cause.{Cause}
+use Rattle.lines.specs.declared.refusals.Cause.the-variants.{TextSize}
+use Rattle.lines.specs.declared.refusals.Refusal.{Refusal}
 use Rattle.sheet.specs.Reading.{reading, Outcome, refused, then-outcome, from-line, sized, outcome, answer}
 use Rattle.sheet.specs.Verdict.{All-read, First-refused, Verdict}
 use Rattle.sheet.proofs.Fills.{lines-step, lines-none}

@@ -1,6 +1,2 @@
-pub mod Sorts
-pub mod Refusals
-pub mod Ranges
-pub mod Lines
 pub mod Reading
 pub mod Verdict

@@ -1,61 +1,20 @@
 -- Reading a sheet: what its lines say, and the first line at fault.
-use Prim.Native.Nat.{ℕ, zero, suc}
+use Prim.Native.Nat.{ℕ, suc}
 use mathlib.Core.List.{List, [], _∷_, _++_, map}
-use mathlib.Core.Bool.{Bool, false, cond, _&&_}
-use lib.Dec.{eqb, leb}
+use mathlib.Core.Bool.{Bool, cond, _&&_}
+use lib.Dec.{leb}
 use lib.ListN.{length, drop}
 use Rattle.std.specs.declared.option.Option.{Option}
 use Rattle.std.specs.declared.option.Option.the-variants.{Some, None}
 use Rattle.std.specs.declared.result.Result.{Result}
 use Rattle.std.specs.declared.result.Result.the-variants.{Ok, Err}
 use Rattle.text.specs.Lines.{Row, closed, unclosed, rows}
-use Rattle.text.specs.Fields.{fields}
-use Rattle.text.specs.Spelling.{number}
-use Rattle.sheet.specs.declared.sorts.Sort.{Sort}
-use Rattle.sheet.specs.declared.records.Line.{Line}
-use Rattle.sheet.specs.declared.records.Record.{Record}
-use Rattle.sheet.specs.declared.refusals.Cause.{Cause}
-use Rattle.sheet.specs.declared.refusals.Cause.the-variants.{TextSize, Form, Field, Kind, Room}
-use Rattle.sheet.specs.declared.refusals.Refusal.{Refusal}
-use Rattle.sheet.specs.Sorts.{sort-of}
-use Rattle.sheet.specs.Lines.{line-of}
-
--- what is made of six fields, and something else where there are not just six
-abbrev pub of-six : {A : Type 0} → A → (List ℕ → List ℕ → List ℕ → List ℕ → List ℕ → List ℕ → A) → List (List ℕ) → A
-of-six other f [] = other
-of-six other f (n ∷ []) = other
-of-six other f (n ∷ k ∷ []) = other
-of-six other f (n ∷ k ∷ a ∷ []) = other
-of-six other f (n ∷ k ∷ a ∷ b ∷ []) = other
-of-six other f (n ∷ k ∷ a ∷ b ∷ c ∷ []) = other
-of-six other f (n ∷ k ∷ a ∷ b ∷ c ∷ d ∷ []) = f n k a b c d
-of-six other f (n ∷ k ∷ a ∷ b ∷ c ∷ d ∷ e ∷ es) = other
-
-abbrev pub equals : ℕ → Option ℕ → Bool
-equals n None = false
-equals n (Some m) = eqb m n
-
--- the field spells the number n of a line
-abbrev pub is-number : ℕ → List ℕ → Bool
-is-number n field = equals n (number 2048 field)
-
--- the sort of line that a kind field stands for, which is one known character
-abbrev pub kind-of : List ℕ → Option Sort
-kind-of [] = None
-kind-of (c ∷ []) = sort-of c
-kind-of (c ∷ d ∷ cs) = None
-
--- a value, or a refusal where there is none
-abbrev pub or-refused : {A B : Type 0} → Option A → Cause → (A → Result B Cause) → Result B Cause
-or-refused None cause f = Err cause
-or-refused (Some a) cause f = f a
-
--- What line n says, or the first of its faults in this order: not six fields, a wrong first field, an unknown kind, another field out of its range.
-abbrev pub line-reading : ℕ → List ℕ → Result Line Cause
-line-reading n l =
-    of-six (Err Form)
-    (λ first kind a b c d. cond (is-number n first) (or-refused (kind-of kind) Kind (λ sort. or-refused (line-of sort a b c d) Field Ok)) (Err Field))
-    (fields l)
+use Rattle.lines.specs.declared.records.Line.{Line}
+use Rattle.lines.specs.declared.records.Record.{Record}
+use Rattle.lines.specs.declared.refusals.Cause.{Cause}
+use Rattle.lines.specs.declared.refusals.Cause.the-variants.{TextSize, Form, Room}
+use Rattle.lines.specs.declared.refusals.Refusal.{Refusal}
+use Rattle.lines.specs.Reading.{line-reading}
 
 -- The same of a line as it stands in the text, which has first to be within 2,048 lines and the records lent, and then to be closed.
 abbrev pub row-reading : ℕ → Row → Result Line Cause

@@ -10,9 +10,9 @@ use Rattle.std.specs.declared.option.Option.the-variants.{Some}
 use Rattle.std.specs.declared.result.Result.{Result}
 use Rattle.std.specs.declared.result.Result.the-variants.{Ok, Err}
 use Rattle.text.specs.Lines.{Row, rows}
-use Rattle.sheet.specs.declared.records.Line.{Line}
-use Rattle.sheet.specs.declared.refusals.Cause.the-variants.{TextSize}
-use Rattle.sheet.specs.declared.refusals.Refusal.{Refusal}
+use Rattle.lines.specs.declared.records.Line.{Line}
+use Rattle.lines.specs.declared.refusals.Cause.the-variants.{TextSize}
+use Rattle.lines.specs.declared.refusals.Refusal.{Refusal}
 use Rattle.sheet.specs.Reading.{reading, sized}
 
 -- of these lines, the first of which is line n, each of the first k is read

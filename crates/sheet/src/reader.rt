@@ -1,14 +1,14 @@
 // The reader: from the text of a sheet to its records.
-use crate::line::read_line;
-use crate::records::Record;
-use crate::refusals::Cause;
-use crate::refusals::Refusal;
+use lines::reading::read_line;
+use lines::records::Record;
+use lines::refusals::Cause;
+use lines::refusals::Refusal;
 use text::cutting::cut;
 ghost use mathlib.Core.Path.{_≡_};
 ghost use Prim.Native.Nat.{ℕ};
 ghost use lib.ListN.{length};
 ghost use Rattle.std.specs.declared.result.Result.{Result};
-ghost use Rattle.sheet.specs.declared.refusals.Refusal.{Refusal};
+ghost use Rattle.lines.specs.declared.refusals.Refusal.{Refusal};
 ghost use Rattle.text.specs.Lines.{rows};
 ghost use Rattle.sheet.specs.Reading.{outcome, from-line, answer, filled};
 ghost use Rattle.sheet.specs.Verdict.{Verdict};

@@ -1,7 +1,7 @@
 use Prim.Native.Nat.{ℕ}
 use lib.ListN.{length}
 use mathlib.Core.List.{List}
-use Rattle.sheet.specs.declared.records.Line.{Line}
+use Rattle.lines.specs.declared.records.Line.{Line}
 use Rattle.sheet.proofs.Fills.{Read-so-far}
 use Rattle.sheet.proofs.reader.fill.Given as given
 

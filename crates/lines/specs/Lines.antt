@@ -3,11 +3,11 @@ use Prim.Native.Nat.{ℕ}
 use mathlib.Core.List.{List}
 use Rattle.std.specs.declared.option.Option.{Option}
 use Rattle.std.specs.declared.option.Option.the-variants.{Some, None}
-use Rattle.sheet.specs.declared.sorts.Sort.{Sort}
-use Rattle.sheet.specs.declared.sorts.Sort.the-variants as Sort
-use Rattle.sheet.specs.declared.records.Line.{Line}
-use Rattle.sheet.specs.declared.records.Line.the-variants as Line
-use Rattle.sheet.specs.Ranges.{given, no-fields, a-name, a-constant, one-line, two-lines, three-lines, name-and-length, name-and-line, name-and-two-lines, name-length-line, three-names-and-line}
+use Rattle.lines.specs.declared.sorts.Sort.{Sort}
+use Rattle.lines.specs.declared.sorts.Sort.the-variants as Sort
+use Rattle.lines.specs.declared.records.Line.{Line}
+use Rattle.lines.specs.declared.records.Line.the-variants as Line
+use Rattle.lines.specs.Ranges.{given, no-fields, a-name, a-constant, one-line, two-lines, three-lines, name-and-length, name-and-line, name-and-two-lines, name-length-line, three-names-and-line}
 
 abbrev pub line-of : Sort → List ℕ → List ℕ → List ℕ → List ℕ → Option Line
 line-of Sort.Global a b c d = given (name-and-length a b c d) (λ p. Some (Line.Global (p .0) (p .1)))

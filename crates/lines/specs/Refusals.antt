@@ -2,8 +2,8 @@
 use Prim.Native.Nat.{ℕ}
 use mathlib.Core.List.{List}
 use lib.Chars.{codes}
-use Rattle.sheet.specs.declared.refusals.Cause.{Cause}
-use Rattle.sheet.specs.declared.refusals.Cause.the-variants.{TextSize, Form, Field, Kind, Room}
+use Rattle.lines.specs.declared.refusals.Cause.{Cause}
+use Rattle.lines.specs.declared.refusals.Cause.the-variants.{TextSize, Form, Field, Kind, Room}
 
 abbrev pub number-of : Cause → ℕ
 number-of TextSize = 1

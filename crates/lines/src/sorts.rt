@@ -1,6 +1,6 @@
 // The sorts of lines, and the character that stands for each.
 ghost use mathlib.Core.Path.{_≡_};
-ghost use Rattle.sheet.specs.Sorts.{sort-of};
+ghost use Rattle.lines.specs.Sorts.{sort-of};
 
 #[derive(Clone, Copy)]
 pub enum Operator {

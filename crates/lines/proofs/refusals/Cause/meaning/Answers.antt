@@ -1,5 +1,5 @@
 use mathlib.Core.Path.{refl}
-use Rattle.sheet.proofs.refusals.Cause.meaning.Needs as need
+use Rattle.lines.proofs.refusals.Cause.meaning.Needs as need
 
 pub returns-in-TextSize : need.returns-in-TextSize
 returns-in-TextSize c = rw (c .in-TextSize .is) refl

@@ -8,7 +8,7 @@ ghost use mathlib.Core.Path.{_≡_};
 ghost use Prim.Native.Nat.{ℕ, _≤_};
 ghost use denote.Ref.{now};
 ghost use Rattle.std.specs.Options.{Cases};
-ghost use Rattle.sheet.specs.Ranges.{within, name, line-number, unused, no-fields, a-name, a-constant, one-line, two-lines, three-lines, name-and-length, name-and-line, name-and-two-lines, name-length-line, three-names-and-line};
+ghost use Rattle.lines.specs.Ranges.{within, name, line-number, unused, no-fields, a-name, a-constant, one-line, two-lines, three-lines, name-and-length, name-and-line, name-and-two-lines, name-length-line, three-names-and-line};
 
 // The number from `low` to `high` that a field spells.
 fn number_within(field: &[u8], low: u16, high: u16) -> Option<u16>

@@ -6,10 +6,10 @@ use lib.Dec.{eqb}
 use lib.Chars.{codes}
 use Rattle.std.specs.declared.option.Option.{Option}
 use Rattle.std.specs.declared.option.Option.the-variants.{Some, None}
-use Rattle.sheet.specs.declared.sorts.Operator.the-variants.{Plus, Minus, Times, Over}
-use Rattle.sheet.specs.declared.sorts.Relation.the-variants.{Equal, Less}
-use Rattle.sheet.specs.declared.sorts.Sort.{Sort}
-use Rattle.sheet.specs.declared.sorts.Sort.the-variants.{Global, Constant, Simple, Element, Operation, Comparison, Choice, Truth, Negation, Implication, Assignment, Sequence, Branch, Call, NewSimple, NewArray, System, Procedure, Join}
+use Rattle.lines.specs.declared.sorts.Operator.the-variants.{Plus, Minus, Times, Over}
+use Rattle.lines.specs.declared.sorts.Relation.the-variants.{Equal, Less}
+use Rattle.lines.specs.declared.sorts.Sort.{Sort}
+use Rattle.lines.specs.declared.sorts.Sort.the-variants.{Global, Constant, Simple, Element, Operation, Comparison, Choice, Truth, Negation, Implication, Assignment, Sequence, Branch, Call, NewSimple, NewArray, System, Procedure, Join}
 
 -- the characters
 abbrev pub letters : List ℕ

@@ -19,8 +19,8 @@ use text::fields::six_fields;
 use text::numbers::read_number;
 ghost use mathlib.Core.Path.{_≡_};
 ghost use denote.Ref.{now};
-ghost use Rattle.sheet.specs.Lines.{line-of};
-ghost use Rattle.sheet.specs.Reading.{kind-of, is-number, line-reading};
+ghost use Rattle.lines.specs.Lines.{line-of};
+ghost use Rattle.lines.specs.Reading.{kind-of, is-number, line-reading};
 
 // What a line of that sort says, by its four fields.
 fn line_of(sort: Sort, f: &Fields<'_>) -> Option<Line>

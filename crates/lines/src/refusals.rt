@@ -1,6 +1,6 @@
 // Why a sheet is refused.
 ghost use mathlib.Core.Path.{_≡_};
-ghost use Rattle.sheet.specs.Refusals.{number-of, meaning-of};
+ghost use Rattle.lines.specs.Refusals.{number-of, meaning-of};
 
 #[derive(Clone, Copy)]
 pub enum Cause {
