@@ -5,8 +5,9 @@ use lines::refusals::Cause;
 use lines::refusals::Refusal;
 use text::cutting::cut;
 ghost use mathlib.Core.Path.{_≡_};
-ghost use Prim.Native.Nat.{ℕ};
+ghost use Prim.Native.Nat.{ℕ, _≤_};
 ghost use lib.ListN.{length};
+ghost use Rattle.std.specs.Vec.{made};
 ghost use Rattle.std.specs.declared.result.Result.{Result};
 ghost use Rattle.lines.specs.declared.refusals.Refusal.{Refusal};
 ghost use Rattle.text.specs.Lines.{rows};
@@ -19,6 +20,7 @@ pub const MOST_LINES: usize = 2048;
 // Reads the lines of a text into the records, one a line, and gives their number. At a refusal the records of the lines before it are filled.
 pub fn read_lines(text: &[u8], records: &mut [Record]) -> Result<usize, Refusal>
     ensures answer { λ r. ⌜ r ≡ answer (outcome (length (now (records .entry))) (now (text .entry))) ⌝ }
+    ensures bound { λ r. ⌜ made r (λ count. count ≤ length (now (records .entry))) ⌝ }
     ensures right { λ r. ⌜ Verdict (length (now (records .entry))) (now (text .entry)) r ⌝ }
     ensures only { λ r. ⌜ ((s : Result ℕ Refusal) → Verdict (length (now (records .entry))) (now (text .entry)) s → s ≡ r) ⌝ }
     ensures left { λ _. ⌜ now (records .exit) ≡ filled (outcome (length (now (records .entry))) (now (text .entry)) .lines) (now (records .entry)) ⌝ }
@@ -31,6 +33,7 @@ pub fn read_lines(text: &[u8], records: &mut [Record]) -> Result<usize, Refusal>
 
 fn fill(text: &[u8], records: &mut [Record]) -> Result<usize, Refusal>
     ensures answer { λ r. ⌜ r ≡ answer (from-line (length (now (records .entry))) 1 (rows (now (text .entry)))) ⌝ }
+    ensures bound { λ r. ⌜ made r (λ count. count ≤ length (now (records .entry))) ⌝ }
     ensures left { λ _. ⌜ now (records .exit) ≡ filled (from-line (length (now (records .entry))) 1 (rows (now (text .entry))) .lines) (now (records .entry)) ⌝ }
 {
     let mut rest = text;

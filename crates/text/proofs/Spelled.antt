@@ -1,6 +1,6 @@
 -- What the spelling of a number is like, and what `parse` reads of it.
 use Prim.Native.Nat.{ℕ, zero, suc, _<_, _≤_, _+_, _-_, _^_}
-use mathlib.Core.Path.{_≡_, refl, sym, ap, _∙_}
+use mathlib.Core.Path.{_≡_, refl, sym, ap, subst, _∙_}
 use mathlib.Core.List.{List, [], _∷_}
 use native.Mathlib.Omega.{arith}
 use borrow.Author.Needs.{needs}
@@ -85,6 +85,9 @@ number-once most bs (Some x) None m p q = absurd (q x (p .1) (p .0))
 number-once most bs None (Some y) m p q = absurd (p y (q .1) (q .0))
 number-once most bs None None m p q = refl
 
+pub both-number : (most : ℕ) (bs : List ℕ) (r : Option ℕ) → most < 2 ^ 64 → Says-number most bs r → Says-number most bs r × (r ≡ number most bs)
+both-number most bs r m h = (h, number-once most bs r (number most bs) m h (says-number most bs m))
+
 -- the first byte of a number's spelling is a digit, and so no minus
 decimal-front : (n c : ℕ) (cs : List ℕ) → n < 2 ^ 64 → c ≡ 45 → c ∷ cs ≡ decimal n → ⊥
 decimal-front n c cs l m e =
@@ -131,3 +134,6 @@ minus-read (c ∷ cs) l e =
 pub negative-some : (n : ℕ) (z : ℤ) → (n ≡ 0 → ⊥) → z ≡ negsuc (n - 1) → Some z ≡ negative (Some n)
 negative-some zero z h e = absurd (h refl)
 negative-some (suc n) z h e = let s : suc n - 1 ≡ n = omega arith in ap Some (e ∙ ap negsuc s)
+
+pub both-integer : (bs : List ℕ) (r : Option ℤ) → r ≡ integer bs → Says-integer bs r × (r ≡ integer bs)
+both-integer bs r e = (subst (Says-integer bs) (sym e) (says-integer bs), e)

@@ -1,5 +1,5 @@
 -- The lines of a text.
-use Prim.Native.Nat.{ℕ, zero, suc}
+use Prim.Native.Nat.{ℕ, _-_}
 use mathlib.Core.List.{List, [], _∷_}
 use mathlib.Core.Bool.{cond}
 use lib.Dec.{eqb}
@@ -30,5 +30,4 @@ if-closed (Some (unclosed l)) = None
 
 -- the text of line n, counted from 1, where the text has that line and it is closed
 abbrev pub line-at : List ℕ → ℕ → Option (List ℕ)
-line-at text zero = None
-line-at text (suc n) = if-closed (nth (rows text) n)
+line-at text n = cond (eqb n 0) None (if-closed (nth (rows text) (n - 1)))

@@ -22,8 +22,14 @@ fn find_byte(text: &[u8], byte: u8) -> Option<usize>
 pub fn cut<'a>(text: &'a [u8], byte: u8) -> Option<(&'a [u8], &'a [u8])>
     ensures { λ r. ⌜ Cases r (Absent byte (now (text .entry))) (λ p. Cut-at byte (now (text .entry)) (now (p .0)) (now (p .1))) ⌝ }
 {
+    parts(text, byte)
+}
+
+fn parts<'a>(text: &'a [u8], byte: u8) -> Option<(&'a [u8], &'a [u8])>
+    ensures { λ r. ⌜ Cases r (Absent byte (now (text .entry))) (λ p. Cut-at byte (now (text .entry)) (now (p .0)) (now (p .1))) ⌝ }
+{
     match find_byte(text, byte) {
-        Some(end) => Some((&text[0..end], &text[end + 1..])),
+        Some(at) => Some((&text[0..at], &text[at + 1..])),
         None => None,
     }
 }

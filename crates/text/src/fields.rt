@@ -25,17 +25,25 @@ fn first_field<'a>(line: &'a [u8]) -> Option<(&'a [u8], &'a [u8])>
     cut(line, b',')
 }
 
+// The fields of a line that has just four.
+fn four_fields<'a>(line: &'a [u8]) -> Option<(&'a [u8], &'a [u8], &'a [u8], &'a [u8])>
+    ensures { λ r. ⌜ Cases r (length (fields (now (line .entry))) ≡ 4 → ⊥) (λ f. fields (now (line .entry)) ≡ now (f .0) ∷ now (f .1) ∷ now (f .2) ∷ now (f .3) ∷ []) ⌝ }
+{
+    let (a, rest) = first_field(line)?;
+    let (b, rest) = first_field(rest)?;
+    let (c, d) = first_field(rest)?;
+    match first_field(d) {
+        Some(_) => None,
+        None => Some((a, b, c, d)),
+    }
+}
+
 // The fields of a line that has just six.
 pub fn six_fields<'a>(line: &'a [u8]) -> Option<Fields<'a>>
     ensures { λ r. ⌜ Cases r (length (fields (now (line .entry))) ≡ 6 → ⊥) (λ f. fields (now (line .entry)) ≡ now (f .number) ∷ now (f .kind) ∷ now (f .a) ∷ now (f .b) ∷ now (f .c) ∷ now (f .d) ∷ []) ⌝ }
 {
     let (number, rest) = first_field(line)?;
     let (kind, rest) = first_field(rest)?;
-    let (a, rest) = first_field(rest)?;
-    let (b, rest) = first_field(rest)?;
-    let (c, d) = first_field(rest)?;
-    match first_field(d) {
-        Some(_) => None,
-        None => Some(Fields { number, kind, a, b, c, d }),
-    }
+    let (a, b, c, d) = four_fields(rest)?;
+    Some(Fields { number, kind, a, b, c, d })
 }

@@ -9,12 +9,12 @@ pub fn read_number(field: &[u8], most: u64) -> Option<u64>
     ensures spelled { λ r. ⌜ Says-number most (now (field .entry)) r ⌝ }
     ensures value { λ r. ⌜ r ≡ number most (now (field .entry)) ⌝ }
 {
-    spelled_number(field, most)
+    parsed_number(field, most)
 }
 
 // The library's `parse` takes a plus and leading zeros, which no spelling has.
-fn spelled_number(field: &[u8], most: u64) -> Option<u64>
-    ensures { λ r. ⌜ Says-number most (now (field .entry)) r ⌝ }
+fn parsed_number(field: &[u8], most: u64) -> Option<u64>
+    ensures { λ r. ⌜ Says-number most (now (field .entry)) r × (r ≡ number most (now (field .entry))) ⌝ }
 {
     if field.len() == 0 {
         return None;
@@ -43,7 +43,7 @@ pub fn read_integer(field: &[u8]) -> Option<i32>
 }
 
 fn signed_integer(field: &[u8]) -> Option<i32>
-    ensures { λ r. ⌜ r ≡ integer (now (field .entry)) ⌝ }
+    ensures { λ r. ⌜ Says-integer (now (field .entry)) r × (r ≡ integer (now (field .entry))) ⌝ }
 {
     if field.len() > 0 && field[0] == b'-' {
         match read_number(&field[1..], 2147483648) {

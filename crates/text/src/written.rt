@@ -36,7 +36,7 @@ pub struct WrittenLine {
 
 impl WrittenLine {
     // How many bytes the line takes, its byte 10 too.
-    pub fn len(&self) -> usize
+    fn len(&self) -> usize
         ensures { λ r. ⌜ r ≡ length (spelling (now (self .entry))) ⌝ }
     {
         5 + digit_count(self.first) + digit_count(self.second) + digit_count(self.third)

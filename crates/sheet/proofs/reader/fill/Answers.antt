@@ -16,21 +16,21 @@ returns-then-count-ge-MOST-LINES c =
     let i = c .loop-rest .inv in
     let f = lines-full (length (c .args .records .now)) (c .loop-rest .count + 1) (rows (c .loop-rest .rest .now)) (rows-some _ (c .loop-rest-test .taken)) (⊎-elim (λ p. inl (omega arith)) (λ p. inr (omega arith)) (c .then-count-ge-MOST-LINES .either)) in
     let e = stopped _ _ _ _ _ _ _ _ (i .1) f in
-    record { answer = e .0; left = e .1 }
+    record { answer = e .0; bound = tt; left = e .1 }
 
 pub returns-in-rest : need.returns-in-rest
 returns-in-rest c =
     let i = c .loop-rest .inv in
     let f = lines-unclosed (length (c .args .records .now)) (c .loop-rest .count + 1) (c .loop-rest .rest .now) (omega arith) (omega arith) (c .loop-rest-test .taken) (c .in-rest .ensures tt) in
     let e = stopped _ _ _ _ _ _ _ _ (i .1) f in
-    record { answer = e .0; left = e .1 }
+    record { answer = e .0; bound = tt; left = e .1 }
 
 pub returns-in-Err : need.returns-in-Err
 returns-in-Err c =
     let i = c .loop-rest .inv in
     let f = lines-read (length (c .args .records .now)) (c .loop-rest .count + 1) (c .loop-rest .rest .now) _ _ _ (omega arith) (omega arith) (c .in-Some .ensures tt) (c .in-Err .ensures tt) in
     let e = stopped _ _ _ _ _ _ _ _ (i .1) f in
-    record { answer = e .0; left = e .1 }
+    record { answer = e .0; bound = tt; left = e .1 }
 
 pub loop-rest-again : need.loop-rest-again
 loop-rest-again c =
@@ -46,4 +46,4 @@ returns c =
     let i = c .loop-rest .inv in
     let f = rows-none (length (c .args .records .now)) (c .loop-rest .count + 1) (c .loop-rest .rest .now) (omega arith) in
     let e = stopped _ _ _ _ _ _ _ _ (i .1) f in
-    record { answer = e .0; left = e .1 }
+    record { answer = e .0; bound = i .1 .full; left = e .1 }

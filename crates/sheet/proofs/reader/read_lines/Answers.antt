@@ -12,4 +12,4 @@ returns c =
     let text = c .args .text .now in
     let a : c .fill .result ≡ answer (outcome room text) = search needs in
     let v : Verdict room text (c .fill .result) = subst (Verdict room text) (sym a) (verdict room text) in
-    record { answer = a; right = v; only = λ s h. one-verdict room text s (c .fill .result) h v; left = search needs }
+    record { answer = a; bound = c .fill .ensures .bound; right = v; only = λ s h. one-verdict room text s (c .fill .result) h v; left = search needs }

@@ -4,11 +4,11 @@ use Prim.Native.Nat.{_+_, _-_}
 use lib.ListN.{length, take, drop}
 use Rattle.std.proofs.shelf.Parts.{between-to-end}
 use Rattle.text.proofs.Rows.{cut-first}
-use Rattle.text.proofs.cutting.cut.Needs as need
+use Rattle.text.proofs.cutting.parts.Needs as need
 
 pub returns-in-Some : need.returns-in-Some
 returns-in-Some c =
-    let e = c .in-Some .end in
+    let e = c .in-Some .at in
     let t = c .args .text .now in
     let h = c .in-Some .ensures tt in
     let l = h .within in
