@@ -1,0 +1,4 @@
+mod Accessing
+mod Capped
+mod Imaging
+pub mod Memory
