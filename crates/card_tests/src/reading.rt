@@ -10,7 +10,10 @@ use std::alloc::AllocError;
 use std::alloc::Global;
 use std::test::*;
 
-const BLANK: Record = Record { line: Line::Truth { value: false }, declaration: None };
+const BLANK: Record = Record {
+    line: Line::Truth { value: false },
+    declaration: None,
+};
 
 // How many lines were read; or the number and the line of the refusal.
 fn outcome(text: &[u8], records: &mut [Record]) -> (usize, u8, u16) {
@@ -45,18 +48,18 @@ fn double_sheet_is_read_whole() -> Result<(), Fail> {
 
 #[test]
 fn damaged_sheets_are_refused() -> Result<(), Fail> {
-    for case in DAMAGED {
+    for (text, number, line) in DAMAGED {
         let mut records = [BLANK; 4];
-        check_eq(outcome(case.text, &mut records), (0, case.number, case.line))?;
+        check_eq(outcome(text.as_bytes(), &mut records), (0, number, line))?;
     }
     Ok(())
 }
 
 #[test]
 fn ends_of_ranges_are_read() -> Result<(), Fail> {
-    for case in WHOLE {
+    for (text, lines) in WHOLE {
         let mut records = [BLANK; 4];
-        check_eq(outcome(case.text, &mut records), (case.lines, 0, 0))?;
+        check_eq(outcome(text.as_bytes(), &mut records), (lines, 0, 0))?;
     }
     Ok(())
 }

@@ -5,7 +5,12 @@ use text::written::WrittenLine;
 
 #[test]
 fn lines_are_written_at_the_front() -> Result<(), Fail> {
-    let line = WrittenLine { letter: b'x', first: 4294967295, second: 0, third: 10 };
+    let line = WrittenLine {
+        letter: b'x',
+        first: 4294967295,
+        second: 0,
+        third: 10,
+    };
     let mut buffer = [b'.'; 20];
     check(matches!(line.write(&mut buffer), Ok(18)))?;
     check_eq(buffer, *b"x,4294967295,0,10\n..")
@@ -13,7 +18,12 @@ fn lines_are_written_at_the_front() -> Result<(), Fail> {
 
 #[test]
 fn short_buffers_stay_as_they_are() -> Result<(), Fail> {
-    let line = WrittenLine { letter: b'f', first: 0, second: 0, third: 4 };
+    let line = WrittenLine {
+        letter: b'f',
+        first: 0,
+        second: 0,
+        third: 4,
+    };
     let mut short = [b'.'; 7];
     match line.write(&mut short) {
         Ok(_) => return Err(Fail::new("too short for the line")),

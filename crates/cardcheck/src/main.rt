@@ -18,7 +18,9 @@ use text::lines::line_text;
 // The card's bytes: one past the most that a sheet may have is enough to refuse it.
 fn read_card(rt: &LibcRuntime) -> Result<Vec<u8>, AnyError> {
     let mut bytes = Vec::new(rt.alloc());
-    rt.stdin().take(MOST_BYTES as u64 + 1).read_to_end(&mut bytes)?;
+    rt.stdin()
+        .take(MOST_BYTES as u64 + 1)
+        .read_to_end(&mut bytes)?;
     Ok(bytes)
 }
 
@@ -46,7 +48,13 @@ fn tell_global(rt: &LibcRuntime, name: u8, length: u16) -> Result<(), AnyError> 
 }
 
 fn tell_refusal(rt: &LibcRuntime, text: &[u8], refusal: Refusal) -> Result<(), AnyError> {
-    println!(rt, "refused: {} at line {}: {}", refusal.cause.number(), refusal.line, refusal.cause.meaning())?;
+    println!(
+        rt,
+        "refused: {} at line {}: {}",
+        refusal.cause.number(),
+        refusal.line,
+        refusal.cause.meaning()
+    )?;
     let Some(line) = line_text(text, refusal.line as usize) else {
         return Ok(());
     };
@@ -58,7 +66,10 @@ fn tell_refusal(rt: &LibcRuntime, text: &[u8], refusal: Refusal) -> Result<(), A
 
 fn run(rt: &LibcRuntime) -> Result<(), AnyError> {
     let card = read_card(rt)?;
-    let blank = Record { line: Line::Truth { value: false }, declaration: None };
+    let blank = Record {
+        line: Line::Truth { value: false },
+        declaration: None,
+    };
     let mut records = vec![in rt.alloc(); blank; MOST_LINES]?;
     match read_lines(&card, &mut records) {
         Ok(count) => tell_lines(rt, &records[0..count]),

@@ -45,15 +45,27 @@ fn line_of(sort: Sort, f: &Fields<'_>) -> Option<Line>
         }
         Sort::Operation(operator) => {
             let (left, right) = two_lines(f)?;
-            Some(Line::Operation { operator, left, right })
+            Some(Line::Operation {
+                operator,
+                left,
+                right,
+            })
         }
         Sort::Comparison(relation) => {
             let (left, right) = two_lines(f)?;
-            Some(Line::Comparison { relation, left, right })
+            Some(Line::Comparison {
+                relation,
+                left,
+                right,
+            })
         }
         Sort::Choice => {
             let (condition, chosen, otherwise) = three_lines(f)?;
-            Some(Line::Choice { condition, chosen, otherwise })
+            Some(Line::Choice {
+                condition,
+                chosen,
+                otherwise,
+            })
         }
         Sort::Truth(value) => {
             no_fields(f)?;
@@ -65,7 +77,10 @@ fn line_of(sort: Sort, f: &Fields<'_>) -> Option<Line>
         }
         Sort::Implication => {
             let (premise, conclusion) = two_lines(f)?;
-            Some(Line::Implication { premise, conclusion })
+            Some(Line::Implication {
+                premise,
+                conclusion,
+            })
         }
         Sort::Assignment => {
             let (variable, value) = two_lines(f)?;
@@ -77,11 +92,19 @@ fn line_of(sort: Sort, f: &Fields<'_>) -> Option<Line>
         }
         Sort::Branch => {
             let (condition, chosen, otherwise) = three_lines(f)?;
-            Some(Line::Branch { condition, chosen, otherwise })
+            Some(Line::Branch {
+                condition,
+                chosen,
+                otherwise,
+            })
         }
         Sort::Call => {
             let (procedure, value, variable) = name_and_two_lines(f)?;
-            Some(Line::Call { procedure, value, variable })
+            Some(Line::Call {
+                procedure,
+                value,
+                variable,
+            })
         }
         Sort::NewSimple => {
             let (name, body) = name_and_line(f)?;
@@ -97,7 +120,12 @@ fn line_of(sort: Sort, f: &Fields<'_>) -> Option<Line>
         }
         Sort::Procedure => {
             let (name, value_formal, variable_formal, body) = three_names_and_line(f)?;
-            Some(Line::Procedure { name, value_formal, variable_formal, body })
+            Some(Line::Procedure {
+                name,
+                value_formal,
+                variable_formal,
+                body,
+            })
         }
         Sort::Join => {
             let (first, second) = two_lines(f)?;

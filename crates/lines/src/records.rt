@@ -12,25 +12,86 @@ pub type LineNumber = u16;
 #[derive(Clone, Copy)]
 pub enum Line {
     // the length is 0 for a simple variable
-    Global { name: Name, length: u16 },
-    Constant { value: i32 },
-    Simple { name: Name },
-    Element { name: Name, index: LineNumber },
-    Operation { operator: Operator, left: LineNumber, right: LineNumber },
-    Comparison { relation: Relation, left: LineNumber, right: LineNumber },
-    Choice { condition: LineNumber, chosen: LineNumber, otherwise: LineNumber },
-    Truth { value: bool },
-    Negation { condition: LineNumber },
-    Implication { premise: LineNumber, conclusion: LineNumber },
-    Assignment { variable: LineNumber, value: LineNumber },
-    Sequence { first: LineNumber, second: LineNumber },
-    Branch { condition: LineNumber, chosen: LineNumber, otherwise: LineNumber },
-    Call { procedure: Name, value: LineNumber, variable: LineNumber },
-    NewSimple { name: Name, body: LineNumber },
-    NewArray { name: Name, length: u16, body: LineNumber },
-    System { declarations: LineNumber, body: LineNumber },
-    Procedure { name: Name, value_formal: Name, variable_formal: Name, body: LineNumber },
-    Join { first: LineNumber, second: LineNumber },
+    Global {
+        name: Name,
+        length: u16,
+    },
+    Constant {
+        value: i32,
+    },
+    Simple {
+        name: Name,
+    },
+    Element {
+        name: Name,
+        index: LineNumber,
+    },
+    Operation {
+        operator: Operator,
+        left: LineNumber,
+        right: LineNumber,
+    },
+    Comparison {
+        relation: Relation,
+        left: LineNumber,
+        right: LineNumber,
+    },
+    Choice {
+        condition: LineNumber,
+        chosen: LineNumber,
+        otherwise: LineNumber,
+    },
+    Truth {
+        value: bool,
+    },
+    Negation {
+        condition: LineNumber,
+    },
+    Implication {
+        premise: LineNumber,
+        conclusion: LineNumber,
+    },
+    Assignment {
+        variable: LineNumber,
+        value: LineNumber,
+    },
+    Sequence {
+        first: LineNumber,
+        second: LineNumber,
+    },
+    Branch {
+        condition: LineNumber,
+        chosen: LineNumber,
+        otherwise: LineNumber,
+    },
+    Call {
+        procedure: Name,
+        value: LineNumber,
+        variable: LineNumber,
+    },
+    NewSimple {
+        name: Name,
+        body: LineNumber,
+    },
+    NewArray {
+        name: Name,
+        length: u16,
+        body: LineNumber,
+    },
+    System {
+        declarations: LineNumber,
+        body: LineNumber,
+    },
+    Procedure {
+        name: Name,
+        value_formal: Name,
+        variable_formal: Name,
+        body: LineNumber,
+    },
+    Join {
+        first: LineNumber,
+        second: LineNumber,
+    },
 }
 
 // As what its declaring line declares a name.

@@ -16,7 +16,11 @@ fn number_within(field: &[u8], low: u16, high: u16) -> Option<u16>
     ensures bound { λ r. ⌜ Cases r (Unit {0}) (λ n. n ≤ high) ⌝ }
 {
     match read_number(field, high as u64) {
-        Some(n) => if low as u64 <= n { Some(n as u16) } else { None },
+        Some(n) => if low as u64 <= n {
+            Some(n as u16)
+        } else {
+            None
+        },
         None => None,
     }
 }

@@ -93,9 +93,10 @@ started text old = record { counted = refl; within = omega arith; held = refl; f
 pub stopped : (room count : ℕ) (text rest : List ℕ) (records old : List Record) (ls : List Line) (r : Option Refusal) → Read-so-far room count text rest records old ls → from-line room (count + 1) (rows rest) ≡ ended r → (or-count count r ≡ answer (from-line room 1 (rows text))) × (records ≡ filled (from-line room 1 (rows text) .lines) old)
 stopped room count text rest records old ls r s e =
     let o : from-line room 1 (rows text) ≡ after ls (ended r) = s .whole ∙ ap (after ls) e in
-    let n : from-line room 1 (rows text) .lines ≡ ls = ap (λ x. x .lines) o ∙ append-nil ls in
-    (sym (ap (λ x. or-count (length x) (from-line room 1 (rows text) .refusal)) n ∙ (ap (λ x. or-count (length ls) (x .refusal)) o ∙ ap (λ k. or-count k r) (s .counted))),
-     s .memory ∙ ap (λ x. filled x old) (sym n))
+    let n : from-line room 1 (rows text) .lines ≡ ls = ap (λ x. x .lines) o ∙ append-nil ls in (
+      sym (ap (λ x. or-count (length x) (from-line room 1 (rows text) .refusal)) n ∙ (ap (λ x. or-count (length ls) (x .refusal)) o ∙ ap (λ k. or-count k r) (s .counted))),
+      s .memory ∙ ap (λ x. filled x old) (sym n),
+    )
 
 filled-more : (ls : List Line) (l : Line) (old : List Record) (count : ℕ) → length ls ≡ count → count < length old → set (filled ls old) count (unresolved l) ≡ filled (ls ++ l ∷ []) old
 filled-more ls l old count e h =
@@ -111,10 +112,10 @@ filled-more ls l old count e h =
 -- one line more
 pub one-more : (room count : ℕ) (text rest back : List ℕ) (records old : List Record) (ls : List Line) (l : Line) → Read-so-far room count text rest records old ls → count < 2048 → count < room → length old ≡ room → from-line room (count + 1) (rows rest) ≡ then-outcome (count + 1) (Ok l) (from-line room (count + 1 + 1) (rows back)) → Read-so-far room (count + 1) text back (set records count (unresolved l)) old (ls ++ l ∷ [])
 one-more room count text rest back records old ls l s p q k e = record {
-    counted = length-push ls l ∙ ap (λ n. n + 1) (s .counted);
-    within = omega arith;
-    held = length-set records count (unresolved l) ∙ s .held;
-    full = omega arith;
-    whole = s .whole ∙ (ap (after ls) e ∙ ap (λ xs. record { lines = xs; refusal = from-line room (count + 1 + 1) (rows back) .refusal }) (sym (append-assoc ls (l ∷ []) (from-line room (count + 1 + 1) (rows back) .lines))));
-    memory = ap (λ xs. set xs count (unresolved l)) (s .memory) ∙ filled-more ls l old count (s .counted) (omega arith)
-  }
+  counted = length-push ls l ∙ ap (λ n. n + 1) (s .counted);
+  within = omega arith;
+  held = length-set records count (unresolved l) ∙ s .held;
+  full = omega arith;
+  whole = s .whole ∙ (ap (after ls) e ∙ ap (λ xs. record { lines = xs; refusal = from-line room (count + 1 + 1) (rows back) .refusal }) (sym (append-assoc ls (l ∷ []) (from-line room (count + 1 + 1) (rows back) .lines))));
+  memory = ap (λ xs. set xs count (unresolved l)) (s .memory) ∙ filled-more ls l old count (s .counted) (omega arith);
+}

@@ -70,7 +70,6 @@ pub verdict : (room : ℕ) (text : List ℕ) → Verdict room text (answer (outc
 verdict room text =
     subst (Verdict room text) (sym (answer-by (sized text) (from-line room 1 (rows text)))) (verdict-by room text (sized text) refl _ (right room 1 (rows text)))
 
-
 true-false : true ≡ false → ⊥
 true-false e = let z : _≡_ {A = ℕ} 0 1 = cc in omega arith
 
@@ -81,13 +80,13 @@ refused-once : (room n : ℕ) (rs : List Row) (r s : Refusal) → First-refused 
 refused-once room n rs r s p q =
     ⊎-elim (λ l. absurd (not-both _ _ _ (p .4) (q .5 (p .0) (p .1) l (p .3) .1)))
     (λ l. ⊎-elim (λ m. absurd (not-both _ _ _ (q .4) (p .5 (q .0) (q .1) m (q .3) .1)))
-      (λ m.
-        let k : p .0 ≡ q .0 = omega arith in
-        let lines : r .line ≡ s .line = omega arith in
-        let a = p .3 in let b = q .3 in let d = p .4 in let e = q .4 in
-        let row : p .1 ≡ q .1 = cc in
-        let causes : r .cause ≡ s .cause = cc in
-        λ i. record { cause = causes i; line = lines i }) (cases-lt (q .0) (p .0)))
+    (λ m.
+    let k : p .0 ≡ q .0 = omega arith in
+    let lines : r .line ≡ s .line = omega arith in
+    let a = p .3 in let b = q .3 in let d = p .4 in let e = q .4 in
+    let row : p .1 ≡ q .1 = cc in
+    let causes : r .cause ≡ s .cause = cc in
+    λ i. record { cause = causes i; line = lines i }) (cases-lt (q .0) (p .0)))
     (cases-lt (p .0) (q .0))
 
 nth-within : {X : Type 0} (xs : List X) (k : ℕ) (x : X) → nth xs k ≡ Some x → k < length xs

@@ -15,6 +15,7 @@ ghost use Rattle.sheet.specs.Reading.{outcome, from-line, answer, filled};
 ghost use Rattle.sheet.specs.Verdict.{Verdict};
 
 pub const MOST_BYTES: usize = 65536;
+
 pub const MOST_LINES: usize = 2048;
 
 // Reads the lines of a text into the records, one a line, and gives their number. At a refusal the records of the lines before it are filled.
@@ -26,7 +27,10 @@ pub fn read_lines(text: &[u8], records: &mut [Record]) -> Result<usize, Refusal>
     ensures left { λ _. ⌜ now (records .exit) ≡ filled (outcome (length (now (records .entry))) (now (text .entry)) .lines) (now (records .entry)) ⌝ }
 {
     if text.len() == 0 || text.len() > MOST_BYTES {
-        return Err(Refusal { cause: Cause::TextSize, line: 0 });
+        return Err(Refusal {
+            cause: Cause::TextSize,
+            line: 0,
+        });
     }
     fill(text, records)
 }
@@ -41,14 +45,26 @@ fn fill(text: &[u8], records: &mut [Record]) -> Result<usize, Refusal>
     while rest.len() > 0 {
         let number = (count + 1) as u16;
         if count >= MOST_LINES || count >= records.len() {
-            return Err(Refusal { cause: Cause::Room, line: number });
+            return Err(Refusal {
+                cause: Cause::Room,
+                line: number,
+            });
         }
         let Some((line, after)) = cut(rest, b'\n') else {
-            return Err(Refusal { cause: Cause::Form, line: number });
+            return Err(Refusal {
+                cause: Cause::Form,
+                line: number,
+            });
         };
         match read_line(line, number) {
-            Ok(line) => records[count] = Record { line, declaration: None },
-            Err(cause) => return Err(Refusal { cause, line: number }),
+            Ok(line) => records[count] = Record {
+                line,
+                declaration: None,
+            },
+            Err(cause) => return Err(Refusal {
+                cause,
+                line: number,
+            }),
         }
         count += 1;
         rest = after;

@@ -29,7 +29,7 @@ placed-more at next xs ys old n l =
     let w : take at old ++ (xs ++ r) ≡ p ++ r = sym (append-assoc (take at old) xs r) in
     let front : take (at + length xs) (placed at xs old) ≡ p = ap (take (at + length xs)) w ∙ take-at p r (at + length xs) e in
     let back : drop (at + length xs + length ys) (placed at xs old) ≡ drop (at + length xs + length ys) old =
-        ap (drop (at + length xs + length ys)) w ∙ (sym (drop-drop (length ys) (at + length xs) (p ++ r)) ∙ (ap (drop (length ys)) (drop-at p r (at + length xs) e) ∙ drop-drop (length ys) (at + length xs) old)) in
+    ap (drop (at + length xs + length ys)) w ∙ (sym (drop-drop (length ys) (at + length xs) (p ++ r)) ∙ (ap (drop (length ys)) (drop-at p r (at + length xs) e) ∙ drop-drop (length ys) (at + length xs) old)) in
     let m : at + length xs + length ys ≡ at + length (xs ++ ys) = omega (arith, length-append xs ys) in
     rw n (ap (λ f. f ++ (ys ++ drop (at + length xs + length ys) (placed at xs old))) front
     ∙ (ap (λ t. p ++ (ys ++ t)) (back ∙ ap (λ k. drop k old) m)
@@ -59,10 +59,10 @@ next-placed next xs ys old b c p h e l = h ∙ (ap (placed next ys) p ∙ placed
 
 -- a line's letter, fields and byte 10 put one after another
 pub line-placed : (w : WrittenLine) (old b c d : List ℕ) (at next last : ℕ) → length (spelling w) ≤ length old
-  → b ≡ placed 1 (44 ∷ decimal (w .first)) (set old 0 (w .letter)) → at ≡ 1 + (1 + length (decimal (w .first)))
-  → c ≡ placed at (44 ∷ decimal (w .second)) b → next ≡ at + (1 + length (decimal (w .second)))
-  → d ≡ placed next (44 ∷ decimal (w .third)) c → last ≡ next + (1 + length (decimal (w .third))) → length d ≡ length old
-  → set d last 10 ≡ placed 0 (spelling w) old
+    → b ≡ placed 1 (44 ∷ decimal (w .first)) (set old 0 (w .letter)) → at ≡ 1 + (1 + length (decimal (w .first)))
+    → c ≡ placed at (44 ∷ decimal (w .second)) b → next ≡ at + (1 + length (decimal (w .second)))
+    → d ≡ placed next (44 ∷ decimal (w .third)) c → last ≡ next + (1 + length (decimal (w .third))) → length d ≡ length old
+    → set d last 10 ≡ placed 0 (spelling w) old
 line-placed w old b c d at next last fits pb eb pc ec pd ed kept =
     let n = length-spelling w in
     let f = 44 ∷ decimal (w .first) in

@@ -16,9 +16,9 @@ use Rattle.text.specs.Lines.{Row, closed, unclosed, in-front, rows, if-closed}
 -- a text, cut where a byte first stands
 pub cut-first : (byte : ℕ) (xs : List ℕ) (i : ℕ) → First-at byte xs i → Cut-at byte xs (take i xs) (drop (i + 1) xs)
 cut-first byte xs i f = record {
-    whole = sym (take-append-drop i xs) ∙ ap (λ ys. take i xs ++ ys) (drop-more xs i 0 (f .within) ∙ ap (λ b. b ∷ drop (i + 1) xs) (f .here));
-    lacks = λ k l e. let n : k < i = omega (arith, length-take i xs) in f .before k n (sym (getD-take i xs k 0 n) ∙ e)
-  }
+  whole = sym (take-append-drop i xs) ∙ ap (λ ys. take i xs ++ ys) (drop-more xs i 0 (f .within) ∙ ap (λ b. b ∷ drop (i + 1) xs) (f .here));
+  lacks = λ k l e. let n : k < i = omega (arith, length-take i xs) in f .before k n (sym (getD-take i xs k 0 n) ∙ e);
+}
 
 rows-closed : (xs ys : List ℕ) → Absent 10 xs → rows (xs ++ 10 ∷ ys) ≡ closed xs ∷ rows ys
 rows-closed [] ys h = refl

@@ -45,5 +45,12 @@ pub fn six_fields<'a>(line: &'a [u8]) -> Option<Fields<'a>>
     let (number, rest) = first_field(line)?;
     let (kind, rest) = first_field(rest)?;
     let (a, b, c, d) = four_fields(rest)?;
-    Some(Fields { number, kind, a, b, c, d })
+    Some(Fields {
+        number,
+        kind,
+        a,
+        b,
+        c,
+        d,
+    })
 }

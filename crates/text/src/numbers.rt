@@ -47,7 +47,11 @@ fn signed_integer(field: &[u8]) -> Option<i32>
 {
     if field.len() > 0 && field[0] == b'-' {
         match read_number(&field[1..], 2147483648) {
-            Some(n) => if n == 0 { None } else { Some(-1 - ((n - 1) as i32)) },
+            Some(n) => if n == 0 {
+                None
+            } else {
+                Some(-1 - ((n - 1) as i32))
+            },
             None => None,
         }
     } else {

@@ -10,8 +10,8 @@ pub loop-record-again : need.loop-record-again
 loop-record-again c =
     let i = c .loop-record .inv in
     elim (c .if-kind-character-character .came) [
-      then-kind-character-character w ↦ (omega (arith, w .count-is), count-yes (c .args .character) (c .args .records .now) (c .loop-record .record-index) _ _ _ _ (c .loop-record-test .taken) (c .kind-character .ensures) (w .if-kind-character-character .taken) (i .1) (w .count-is))
-    | else-kind-character-character w ↦ (omega (arith, w .count-is), count-no (c .args .character) (c .args .records .now) (c .loop-record .record-index) _ _ _ _ (c .loop-record-test .taken) (c .kind-character .ensures) (w .if-kind-character-character .left) (i .1) (w .count-is))
+      | then-kind-character-character w ↦ (omega (arith, w .count-is), count-yes (c .args .character) (c .args .records .now) (c .loop-record .record-index) _ _ _ _ (c .loop-record-test .taken) (c .kind-character .ensures) (w .if-kind-character-character .taken) (i .1) (w .count-is))
+      | else-kind-character-character w ↦ (omega (arith, w .count-is), count-no (c .args .character) (c .args .records .now) (c .loop-record .record-index) _ _ _ _ (c .loop-record-test .taken) (c .kind-character .ensures) (w .if-kind-character-character .left) (i .1) (w .count-is))
     ]
 
 pub returns : need.returns

@@ -15,7 +15,7 @@ returns-then-n-lt10 t c =
     let d = digits-one (c .args .n) (c .if-n-lt10 .taken) in
     record {
       end = omega arith;
-      left = placed-set (c .args .at) _ (c .args .buffer .now) (omega arith) ∙ ap (λ ds. placed (c .args .at) ds (c .args .buffer .now)) (sym (decimal-digit (c .args .n) (c .if-n-lt10 .taken)))
+      left = placed-set (c .args .at) _ (c .args .buffer .now) (omega arith) ∙ ap (λ ds. placed (c .args .at) ds (c .args .buffer .now)) (sym (decimal-digit (c .args .n) (c .if-n-lt10 .taken)));
     }
 
 pub put-number-end-requires : need.put-number-end-requires
@@ -32,5 +32,5 @@ returns t c =
     let d = digits-more (c .args .n) (c .if-n-lt10 .left) (omega arith) in
     record {
       end = omega arith;
-      left = ap (λ b. set b (c .put-number-end .result) (48 + c .args .n % 10)) (c .put-number-end .ensures .left) ∙ placed-last (c .args .at) (c .put-number-end .result) (c .args .n) (c .args .buffer .now) (c .put-number-end .ensures .end) (c .if-n-lt10 .left) (omega arith) (c .pre)
+      left = ap (λ b. set b (c .put-number-end .result) (48 + c .args .n % 10)) (c .put-number-end .ensures .left) ∙ placed-last (c .args .at) (c .put-number-end .result) (c .args .n) (c .args .buffer .now) (c .put-number-end .ensures .end) (c .if-n-lt10 .left) (omega arith) (c .pre);
     }

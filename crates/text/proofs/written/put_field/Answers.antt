@@ -13,5 +13,5 @@ returns c =
     let at = c .args .at in
     record {
       end = omega (arith, c .put-number .ensures .end);
-      left = c .put-number .ensures .left ∙ (ap (placed (at + 1) (decimal (c .args .n))) (placed-set at 44 old (omega arith)) ∙ placed-more at (at + 1) (44 ∷ []) (decimal (c .args .n)) old (omega arith) (omega arith))
+      left = c .put-number .ensures .left ∙ (ap (placed (at + 1) (decimal (c .args .n))) (placed-set at 44 old (omega arith)) ∙ placed-more at (at + 1) (44 ∷ []) (decimal (c .args .n)) old (omega arith) (omega arith));
     }
