@@ -12,15 +12,147 @@ use crate::shapes::one_line;
 use crate::shapes::three_lines;
 use crate::shapes::three_names_and_line;
 use crate::shapes::two_lines;
+use crate::sorts::ConditionSort;
+use crate::sorts::DeclarationSort;
+use crate::sorts::ExpressionSort;
 use crate::sorts::Sort;
+use crate::sorts::StatementSort;
 use crate::sorts::sort_of;
 use text::fields::Fields;
 use text::fields::six_fields;
 use text::numbers::read_number;
 ghost use mathlib.Core.Path.{_≡_};
 ghost use denote.Ref.{now};
-ghost use Rattle.lines.specs.Lines.{line-of};
+ghost use Rattle.lines.specs.Lines.{expression-line, condition-line, statement-line, declaration-line, line-of};
 ghost use Rattle.lines.specs.Reading.{kind-of, is-number, line-reading};
+
+fn expression_line(sort: ExpressionSort, f: &Fields<'_>) -> Option<Line>
+    ensures { λ r. ⌜ r ≡ expression-line sort (now (now (f .entry) .a)) (now (now (f .entry) .b)) (now (now (f .entry) .c)) (now (now (f .entry) .d)) ⌝ }
+{
+    match sort {
+        ExpressionSort::Constant => {
+            let value = a_constant(f)?;
+            Some(Line::Constant { value })
+        }
+        ExpressionSort::Simple => {
+            let name = a_name(f)?;
+            Some(Line::Simple { name })
+        }
+        ExpressionSort::Element => {
+            let (name, index) = name_and_line(f)?;
+            Some(Line::Element { name, index })
+        }
+        ExpressionSort::Operation(operator) => {
+            let (left, right) = two_lines(f)?;
+            Some(Line::Operation {
+                operator,
+                left,
+                right,
+            })
+        }
+        ExpressionSort::Choice => {
+            let (condition, chosen, otherwise) = three_lines(f)?;
+            Some(Line::Choice {
+                condition,
+                chosen,
+                otherwise,
+            })
+        }
+    }
+}
+
+fn condition_line(sort: ConditionSort, f: &Fields<'_>) -> Option<Line>
+    ensures { λ r. ⌜ r ≡ condition-line sort (now (now (f .entry) .a)) (now (now (f .entry) .b)) (now (now (f .entry) .c)) (now (now (f .entry) .d)) ⌝ }
+{
+    match sort {
+        ConditionSort::Truth(value) => {
+            no_fields(f)?;
+            Some(Line::Truth { value })
+        }
+        ConditionSort::Comparison(relation) => {
+            let (left, right) = two_lines(f)?;
+            Some(Line::Comparison {
+                relation,
+                left,
+                right,
+            })
+        }
+        ConditionSort::Negation => {
+            let condition = one_line(f)?;
+            Some(Line::Negation { condition })
+        }
+        ConditionSort::Implication => {
+            let (premise, conclusion) = two_lines(f)?;
+            Some(Line::Implication {
+                premise,
+                conclusion,
+            })
+        }
+    }
+}
+
+fn statement_line(sort: StatementSort, f: &Fields<'_>) -> Option<Line>
+    ensures { λ r. ⌜ r ≡ statement-line sort (now (now (f .entry) .a)) (now (now (f .entry) .b)) (now (now (f .entry) .c)) (now (now (f .entry) .d)) ⌝ }
+{
+    match sort {
+        StatementSort::Assignment => {
+            let (variable, value) = two_lines(f)?;
+            Some(Line::Assignment { variable, value })
+        }
+        StatementSort::Sequence => {
+            let (first, second) = two_lines(f)?;
+            Some(Line::Sequence { first, second })
+        }
+        StatementSort::Branch => {
+            let (condition, chosen, otherwise) = three_lines(f)?;
+            Some(Line::Branch {
+                condition,
+                chosen,
+                otherwise,
+            })
+        }
+        StatementSort::Call => {
+            let (procedure, value, variable) = name_and_two_lines(f)?;
+            Some(Line::Call {
+                procedure,
+                value,
+                variable,
+            })
+        }
+        StatementSort::NewSimple => {
+            let (name, body) = name_and_line(f)?;
+            Some(Line::NewSimple { name, body })
+        }
+        StatementSort::NewArray => {
+            let (name, length, body) = name_length_line(f)?;
+            Some(Line::NewArray { name, length, body })
+        }
+        StatementSort::System => {
+            let (declarations, body) = two_lines(f)?;
+            Some(Line::System { declarations, body })
+        }
+    }
+}
+
+fn declaration_line(sort: DeclarationSort, f: &Fields<'_>) -> Option<Line>
+    ensures { λ r. ⌜ r ≡ declaration-line sort (now (now (f .entry) .a)) (now (now (f .entry) .b)) (now (now (f .entry) .c)) (now (now (f .entry) .d)) ⌝ }
+{
+    match sort {
+        DeclarationSort::Procedure => {
+            let (name, value_formal, variable_formal, body) = three_names_and_line(f)?;
+            Some(Line::Procedure {
+                name,
+                value_formal,
+                variable_formal,
+                body,
+            })
+        }
+        DeclarationSort::Join => {
+            let (first, second) = two_lines(f)?;
+            Some(Line::Join { first, second })
+        }
+    }
+}
 
 // What a line of that sort says, by its four fields.
 fn line_of(sort: Sort, f: &Fields<'_>) -> Option<Line>
@@ -31,106 +163,10 @@ fn line_of(sort: Sort, f: &Fields<'_>) -> Option<Line>
             let (name, length) = name_and_length(f)?;
             Some(Line::Global { name, length })
         }
-        Sort::Constant => {
-            let value = a_constant(f)?;
-            Some(Line::Constant { value })
-        }
-        Sort::Simple => {
-            let name = a_name(f)?;
-            Some(Line::Simple { name })
-        }
-        Sort::Element => {
-            let (name, index) = name_and_line(f)?;
-            Some(Line::Element { name, index })
-        }
-        Sort::Operation(operator) => {
-            let (left, right) = two_lines(f)?;
-            Some(Line::Operation {
-                operator,
-                left,
-                right,
-            })
-        }
-        Sort::Comparison(relation) => {
-            let (left, right) = two_lines(f)?;
-            Some(Line::Comparison {
-                relation,
-                left,
-                right,
-            })
-        }
-        Sort::Choice => {
-            let (condition, chosen, otherwise) = three_lines(f)?;
-            Some(Line::Choice {
-                condition,
-                chosen,
-                otherwise,
-            })
-        }
-        Sort::Truth(value) => {
-            no_fields(f)?;
-            Some(Line::Truth { value })
-        }
-        Sort::Negation => {
-            let condition = one_line(f)?;
-            Some(Line::Negation { condition })
-        }
-        Sort::Implication => {
-            let (premise, conclusion) = two_lines(f)?;
-            Some(Line::Implication {
-                premise,
-                conclusion,
-            })
-        }
-        Sort::Assignment => {
-            let (variable, value) = two_lines(f)?;
-            Some(Line::Assignment { variable, value })
-        }
-        Sort::Sequence => {
-            let (first, second) = two_lines(f)?;
-            Some(Line::Sequence { first, second })
-        }
-        Sort::Branch => {
-            let (condition, chosen, otherwise) = three_lines(f)?;
-            Some(Line::Branch {
-                condition,
-                chosen,
-                otherwise,
-            })
-        }
-        Sort::Call => {
-            let (procedure, value, variable) = name_and_two_lines(f)?;
-            Some(Line::Call {
-                procedure,
-                value,
-                variable,
-            })
-        }
-        Sort::NewSimple => {
-            let (name, body) = name_and_line(f)?;
-            Some(Line::NewSimple { name, body })
-        }
-        Sort::NewArray => {
-            let (name, length, body) = name_length_line(f)?;
-            Some(Line::NewArray { name, length, body })
-        }
-        Sort::System => {
-            let (declarations, body) = two_lines(f)?;
-            Some(Line::System { declarations, body })
-        }
-        Sort::Procedure => {
-            let (name, value_formal, variable_formal, body) = three_names_and_line(f)?;
-            Some(Line::Procedure {
-                name,
-                value_formal,
-                variable_formal,
-                body,
-            })
-        }
-        Sort::Join => {
-            let (first, second) = two_lines(f)?;
-            Some(Line::Join { first, second })
-        }
+        Sort::Expression(sort) => expression_line(sort, f),
+        Sort::Condition(sort) => condition_line(sort, f),
+        Sort::Statement(sort) => statement_line(sort, f),
+        Sort::Declaration(sort) => declaration_line(sort, f),
     }
 }
 

@@ -16,25 +16,39 @@ pub enum Relation {
     Less,
 }
 
-// What a line is; the comments give the words of a sheet.
+// What a line is. Comments give a term's meaning where its name does not.
 #[derive(Clone, Copy)]
 pub enum Sort {
-    // a global: a simple variable or an array
+    // a variable or an array that outlives the runs
     Global,
+    Expression(ExpressionSort),
+    Condition(ConditionSort),
+    Statement(StatementSort),
+    Declaration(DeclarationSort),
+}
+
+#[derive(Clone, Copy)]
+pub enum ExpressionSort {
     Constant,
-    // the word of a simple variable
+    // a simple variable
     Simple,
     // an element of an array
     Element,
-    // a sum, difference, product or quotient
     Operation(Operator),
-    Comparison(Relation),
     // one of two expressions, by a condition
     Choice,
+}
+
+#[derive(Clone, Copy)]
+pub enum ConditionSort {
     Truth(bool),
+    Comparison(Relation),
     Negation,
     Implication,
-    // a variable becomes an expression
+}
+
+#[derive(Clone, Copy)]
+pub enum StatementSort {
     Assignment,
     // one statement, then another
     Sequence,
@@ -45,10 +59,14 @@ pub enum Sort {
     NewSimple,
     // a new array in a statement
     NewArray,
-    // a system of procedures in a statement
+    // procedures that are known in a statement
     System,
+}
+
+#[derive(Clone, Copy)]
+pub enum DeclarationSort {
     Procedure,
-    // two groups of procedures taken together
+    // two declarations taken together
     Join,
 }
 
@@ -58,29 +76,29 @@ pub fn sort_of(character: u8) -> Option<Sort>
 {
     match character as char {
         'g' => Some(Sort::Global),
-        'k' => Some(Sort::Constant),
-        'x' => Some(Sort::Simple),
-        'a' => Some(Sort::Element),
-        '+' => Some(Sort::Operation(Operator::Plus)),
-        '-' => Some(Sort::Operation(Operator::Minus)),
-        '*' => Some(Sort::Operation(Operator::Times)),
-        '/' => Some(Sort::Operation(Operator::Over)),
-        '=' => Some(Sort::Comparison(Relation::Equal)),
-        '<' => Some(Sort::Comparison(Relation::Less)),
-        '?' => Some(Sort::Choice),
-        't' => Some(Sort::Truth(true)),
-        'f' => Some(Sort::Truth(false)),
-        '!' => Some(Sort::Negation),
-        '>' => Some(Sort::Implication),
-        's' => Some(Sort::Assignment),
-        ';' => Some(Sort::Sequence),
-        'i' => Some(Sort::Branch),
-        'p' => Some(Sort::Call),
-        'v' => Some(Sort::NewSimple),
-        'r' => Some(Sort::NewArray),
-        'e' => Some(Sort::System),
-        'd' => Some(Sort::Procedure),
-        '&' => Some(Sort::Join),
+        'k' => Some(Sort::Expression(ExpressionSort::Constant)),
+        'x' => Some(Sort::Expression(ExpressionSort::Simple)),
+        'a' => Some(Sort::Expression(ExpressionSort::Element)),
+        '+' => Some(Sort::Expression(ExpressionSort::Operation(Operator::Plus))),
+        '-' => Some(Sort::Expression(ExpressionSort::Operation(Operator::Minus))),
+        '*' => Some(Sort::Expression(ExpressionSort::Operation(Operator::Times))),
+        '/' => Some(Sort::Expression(ExpressionSort::Operation(Operator::Over))),
+        '?' => Some(Sort::Expression(ExpressionSort::Choice)),
+        't' => Some(Sort::Condition(ConditionSort::Truth(true))),
+        'f' => Some(Sort::Condition(ConditionSort::Truth(false))),
+        '=' => Some(Sort::Condition(ConditionSort::Comparison(Relation::Equal))),
+        '<' => Some(Sort::Condition(ConditionSort::Comparison(Relation::Less))),
+        '!' => Some(Sort::Condition(ConditionSort::Negation)),
+        '>' => Some(Sort::Condition(ConditionSort::Implication)),
+        's' => Some(Sort::Statement(StatementSort::Assignment)),
+        ';' => Some(Sort::Statement(StatementSort::Sequence)),
+        'i' => Some(Sort::Statement(StatementSort::Branch)),
+        'p' => Some(Sort::Statement(StatementSort::Call)),
+        'v' => Some(Sort::Statement(StatementSort::NewSimple)),
+        'r' => Some(Sort::Statement(StatementSort::NewArray)),
+        'e' => Some(Sort::Statement(StatementSort::System)),
+        'd' => Some(Sort::Declaration(DeclarationSort::Procedure)),
+        '&' => Some(Sort::Declaration(DeclarationSort::Join)),
         _ => None,
     }
 }
