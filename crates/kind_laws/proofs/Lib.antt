@@ -1,0 +1,10 @@
+pub mod Nearest
+pub mod Ties
+pub mod Words
+pub mod Signs
+pub mod Scaling
+pub mod Range
+pub mod Rounded
+pub mod Operations
+pub mod Comparisons
+pub mod Truncation

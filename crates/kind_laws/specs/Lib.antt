@@ -1,0 +1,4 @@
+pub mod Exact
+pub mod Rounding
+pub mod Comparing
+pub mod Dividing

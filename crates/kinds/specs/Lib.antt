@@ -1,0 +1,4 @@
+pub mod Faults
+pub mod Arithmetic
+pub mod Whole
+pub mod Single
