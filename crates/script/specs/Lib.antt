@@ -2,3 +2,13 @@ pub mod Script
 pub mod Tree
 pub mod Names
 pub mod Apart
+pub mod Lists
+pub mod Scoped
+pub mod Fields
+pub mod Around
+pub mod Depth
+pub mod IsScript
+pub mod Causes
+pub mod Tests
+pub mod Laws
+pub mod RefusalCases

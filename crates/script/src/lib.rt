@@ -1,1 +1,2 @@
-// The text of a script: what its lines mean together.
+// The text of a script: what its lines mean together, and which sheets are scripts.
+pub mod laws;

@@ -1,0 +1,10 @@
+pub mod Agree
+pub mod Count
+pub mod Compose
+pub mod Matching
+pub mod Lockstep
+pub mod Simulation
+pub mod InOrder
+pub mod Accepted
+pub mod Resume
+pub mod Local

@@ -1,0 +1,12 @@
+pub mod Work
+pub mod Values
+pub mod Rewriting
+pub mod CopyRule
+pub mod Laws
+pub mod Closing
+pub mod Count
+pub mod Machine
+pub mod Fine
+pub mod Agreement
+pub mod Resume
+pub mod Local
