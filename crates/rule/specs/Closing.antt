@@ -5,7 +5,9 @@ use mathlib.Core.List.{List, [], _∷_, _++_}
 use lib.ListN.{getD, take, replicate}
 use Rattle.kinds.specs.Arithmetic.{Arithmetic}
 use Rattle.script.specs.Script.{Statement}
+use Rattle.lines.specs.declared.records.Line.{Line}
 use Rattle.script.specs.Names.{Names}
+use Rattle.script.specs.Apart.{globals-of, statement-apart, first-fresh}
 use Rattle.rule.specs.Work.{Work, gives}
 use Rattle.rule.specs.Rewriting.{Pending, Situation, Ending, finished, stopped}
 use Rattle.rule.specs.CopyRule.{Outcome, through, halts, Runs}
@@ -56,3 +58,12 @@ module _ (K : Arithmetic) (P : Program) (size : ℕ) where
   -- n reaches the own count
   abbrev pub Is-over : List ℕ → ℕ → Type 0
   Is-over g n = (m : ℕ) × Own-count g m × (m ≤ n)
+
+-- the program of a sheet's lines whose last line is the statement t
+abbrev pub program-of : List Line → Statement → Program
+program-of ls t = record {
+  text = statement-apart (globals-of ls .scope) t;
+  names = globals-of ls .names;
+  taken = globals-of ls .taken;
+  fresh = first-fresh;
+}

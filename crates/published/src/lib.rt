@@ -1,0 +1,2 @@
+// The published cases, each computed from the definitions by the check.
+pub mod table;
