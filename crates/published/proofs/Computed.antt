@@ -3,7 +3,7 @@ use Prim.Native.Nat.{ℕ}
 use mathlib.Core.Path.{_≡_, refl, sym, ap, subst}
 use mathlib.Core.List.{List, [], _∷_}
 use lib.ListN.{length}
-use Rattle.kinds.specs.Arithmetic.{Arithmetic}
+use Rattle.lines.specs.declared.records.Line.{Line}
 use Rattle.kinds.specs.Whole.{whole}
 use Rattle.kinds.specs.Single.{single}
 use Rattle.sheet.specs.Reading.{from-line}
@@ -11,11 +11,12 @@ use Rattle.script.specs.Script.{Statement, assign, simple, constant}
 use Rattle.script.specs.Tree.{Part, place, expression, condition, statement, declarations, other, part, line}
 use Rattle.script.specs.IsScript.{Is-script}
 use Rattle.script.proofs.Verdict.{accepted-exactly}
-use Rattle.rule.specs.Rewriting.{Ending, rewrite}
+use Rattle.rule.specs.Rewriting.{rewrite}
 use Rattle.rule.specs.Closing.{Closing, Closes, program-of, own-fetch, start, situation}
 use Rattle.rule.proofs.Closings.{closing-at, closes-by}
 use Rattle.published.specs.Double.{double}
-use Rattle.published.specs.Cases.{Run, Published}
+use Rattle.published.specs.Cases.{Published}
+use Rattle.published.specs.Scopes.{Finishes, Told-apart, through-formal, own-locals, static-scope, fixed-index, alias, shadowed-procedure}
 use lib.IntN.{pos}
 
 -- the statement that a part is
@@ -27,14 +28,14 @@ the-statement (condition c) = assign 0 (simple 0) (constant (pos 0))
 the-statement (declarations d) = assign 0 (simple 0) (constant (pos 0))
 the-statement other = assign 0 (simple 0) (constant (pos 0))
 
-abbrev text : Statement
-text = the-statement (part (line double) 25)
+abbrev text : List Line → Statement
+text ls = the-statement (part (line ls) (length ls))
 
-run : (size a b n : ℕ) (e : Ending) (count c d : ℕ)
-  → closing-at (program-of double text) n (rewrite whole size own-fetch n (start (program-of double text)) (situation whole (program-of double text) size (a ∷ b ∷ []))) ≡ record { ending = e; count = count; globals = c ∷ d ∷ [] }
-  → Run size a b n e count c d
-run size a b n e count c d h s =
-    subst (λ t. Closes whole (program-of double t) size (a ∷ b ∷ []) n (record { ending = e; count = count; globals = c ∷ d ∷ [] })) (ap the-statement (s .is)) (closes-by whole (program-of double text) size (a ∷ b ∷ []) n _ h)
+-- a closing that rewriting computes
+closes : (ls : List Line) (size : ℕ) (g : List ℕ) (n : ℕ) (c : Closing)
+  → closing-at (program-of ls (text ls)) n (rewrite whole size own-fetch n (start (program-of ls (text ls))) (situation whole (program-of ls (text ls)) size g)) ≡ c
+  → (s : Is-script (whole .least) (whole .most) ls) → Closes whole (program-of ls (s .text)) size g n c
+closes ls size g n c h s = subst (λ t. Closes whole (program-of ls t) size g n c) (ap the-statement (s .is)) (closes-by whole (program-of ls (text ls)) size g n c h)
 
 pub published : Published
 unfolding from-line
@@ -42,16 +43,26 @@ published = record {
   read = refl;
   for-whole = accepted-exactly (whole .least) (whole .most) double .0 .0 refl;
   for-single = accepted-exactly (single .least) (single .most) double .0 .0 refl;
-  nought = run 1024 0 9 1000000 _ 4 0 0 refl;
-  three = run 1024 3 9 1000000 _ 16 3 6 refl;
-  one-stopped = run 1024 1 9 7 _ 7 1 0 refl;
-  one-finished = run 1024 1 9 8 _ 8 1 2 refl;
-  deepest = run 1024 255 9 1000000 _ 1024 255 510 refl;
-  too-deep = run 1024 256 9 1000000 _ 769 256 9 refl;
-  too-large = run 257 255 9 1000000 _ 767 255 9 refl;
+  nought = closes double 1024 (0 ∷ 9 ∷ []) 1000000 _ refl;
+  three = closes double 1024 (3 ∷ 9 ∷ []) 1000000 _ refl;
+  one-stopped = closes double 1024 (1 ∷ 9 ∷ []) 7 _ refl;
+  one-finished = closes double 1024 (1 ∷ 9 ∷ []) 8 _ refl;
+  deepest = closes double 1024 (255 ∷ 9 ∷ []) 1000000 _ refl;
+  too-deep = closes double 1024 (256 ∷ 9 ∷ []) 1000000 _ refl;
+  too-large = closes double 257 (255 ∷ 9 ∷ []) 1000000 _ refl;
   past-most = refl;
   towards-zero = refl;
   past-least = refl;
   largest = refl;
   infinite = refl;
+}
+
+pub told-apart : Told-apart
+told-apart = record {
+  case-through-formal = record { is-script = accepted-exactly (whole .least) (whole .most) through-formal .0 .0 refl; closes = closes through-formal 64 (9 ∷ []) 1000 _ refl };
+  case-own-locals = record { is-script = accepted-exactly (whole .least) (whole .most) own-locals .0 .0 refl; closes = closes own-locals 64 (9 ∷ 0 ∷ []) 1000 _ refl };
+  case-static-scope = record { is-script = accepted-exactly (whole .least) (whole .most) static-scope .0 .0 refl; closes = closes static-scope 64 (7 ∷ 0 ∷ []) 1000 _ refl };
+  case-fixed-index = record { is-script = accepted-exactly (whole .least) (whole .most) fixed-index .0 .0 refl; closes = closes fixed-index 64 (0 ∷ 1 ∷ 1 ∷ 1 ∷ []) 1000 _ refl };
+  case-alias = record { is-script = accepted-exactly (whole .least) (whole .most) alias .0 .0 refl; closes = closes alias 64 (4 ∷ []) 1000 _ refl };
+  case-shadowed-procedure = record { is-script = accepted-exactly (whole .least) (whole .most) shadowed-procedure .0 .0 refl; closes = closes shadowed-procedure 64 (0 ∷ []) 1000 _ refl };
 }
