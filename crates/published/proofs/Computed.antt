@@ -11,9 +11,8 @@ use Rattle.script.specs.Script.{Statement, assign, simple, constant}
 use Rattle.script.specs.Tree.{Part, place, expression, condition, statement, declarations, other, part, line}
 use Rattle.script.specs.IsScript.{Is-script}
 use Rattle.script.proofs.Verdict.{accepted-exactly}
-use Rattle.rule.specs.Rewriting.{rewrite}
-use Rattle.rule.specs.Closing.{Closing, Closes, program-of, own-fetch, start, situation}
-use Rattle.rule.proofs.Closings.{closing-at, closes-by}
+use Rattle.rule.specs.Closing.{Closing, Closes, program-of}
+use Rattle.rule.proofs.Count.{closing, closes-by}
 use Rattle.published.specs.Double.{double}
 use Rattle.published.specs.Cases.{Published}
 use Rattle.published.specs.Scopes.{Finishes, Told-apart, through-formal, own-locals, static-scope, fixed-index, alias, shadowed-procedure}
@@ -33,7 +32,7 @@ text ls = the-statement (part (line ls) (length ls))
 
 -- a closing that rewriting computes
 closes : (ls : List Line) (size : ℕ) (g : List ℕ) (n : ℕ) (c : Closing)
-  → closing-at (program-of ls (text ls)) n (rewrite whole size own-fetch n (start (program-of ls (text ls))) (situation whole (program-of ls (text ls)) size g)) ≡ c
+  → closing whole (program-of ls (text ls)) size g n ≡ c
   → (s : Is-script (whole .least) (whole .most) ls) → Closes whole (program-of ls (s .text)) size g n c
 closes ls size g n c h s = subst (λ t. Closes whole (program-of ls t) size g n c) (ap the-statement (s .is)) (closes-by whole (program-of ls (text ls)) size g n c h)
 

@@ -1,3 +1,4 @@
+-- The copy rule over whole runs has exactly one outcome, which the rewriting gives.
 use Prim.Native.Nat.{ℕ, zero, suc, _≤_}
 use native.Mathlib.Omega.{arith}
 use native.Mathlib.Nat.{le-refl, le-trans, not-suc-le-zero, le-of-suc-le-suc}
@@ -10,27 +11,59 @@ use Rattle.rule.specs.CopyRule.{Outcome, through, halts, Runs, none-left, stop
 use Rattle.rule.specs.Laws.{Agrees, halt-of}
 
 module _ (K : Arithmetic) (size : ℕ) (fetch : List ℕ → ℕ → Work ℕ) where
-  abbrev after : Outcome → List Pending → Halt
-  after (through n s) ps = rewrite K size fetch n ps s
-  after (halts e m σ) ps = record { ending = e; left = m; store = σ }
+  -- the rewriting, with what the names stand for at the end
+  abbrev outcome : ℕ → List Pending → Situation → Outcome
+  outcome zero [] s = through zero s
+  outcome zero (p ∷ ps) s = halts stopped zero (s .store)
+  outcome (suc n) [] s = through (suc n) s
+  outcome (suc n) (p ∷ ps) s = elim (begins K size fetch p s) [ goes qs s′ ↦ outcome n (qs ++ ps) s′ | fails f l ↦ halts (fault f l) n (s .store) ]
 
-  abbrev on : ℕ → List Pending → Situation → Begun → Halt
-  on n ps s (goes qs s′) = rewrite K size fetch n (qs ++ ps) s′
-  on n ps s (fails f l) = record { ending = fault f l; left = n; store = s .store }
+  abbrev on : ℕ → List Pending → Situation → Begun → Outcome
+  on n ps s (goes qs s′) = outcome n (qs ++ ps) s′
+  on n ps s (fails f l) = halts (fault f l) n (s .store)
 
-  stepped : (n : ℕ) (p : Pending) (ps : List Pending) (s : Situation) → rewrite K size fetch (suc n) (p ∷ ps) s ≡ on n ps s (begins K size fetch p s)
+  stepped : (n : ℕ) (p : Pending) (ps : List Pending) (s : Situation) → outcome (suc n) (p ∷ ps) s ≡ on n ps s (begins K size fetch p s)
   stepped n p ps s = go (begins K size fetch p s)
     where
-      go : (b : Begun) → elim b [ goes qs s′ ↦ rewrite K size fetch n (qs ++ ps) s′ | fails f l ↦ record { ending = fault f l; left = n; store = s .store } ] ≡ on n ps s b
+      go : (b : Begun) → elim b [ goes qs s′ ↦ outcome n (qs ++ ps) s′ | fails f l ↦ halts (fault f l) n (s .store) ] ≡ on n ps s b
       go (goes qs s′) = refl
       go (fails f l) = refl
 
-  sound : {ps : List Pending} {n : ℕ} {s : Situation} {o : Outcome} → Runs K size fetch ps n s o → (rest : List Pending) → rewrite K size fetch n (ps ++ rest) s ≡ after o rest
+  rewritten : (n : ℕ) (ps : List Pending) (s : Situation) → rewrite K size fetch n ps s ≡ halt-of (outcome n ps s)
+  rewritten zero [] s = refl
+  rewritten zero (p ∷ ps) s = refl
+  rewritten (suc n) [] s = refl
+  rewritten (suc n) (p ∷ ps) s = go (begins K size fetch p s) (λ qs s′. rewritten n (qs ++ ps) s′)
+    where
+      go : (b : Begun) → ((qs : List Pending) (s′ : Situation) → rewrite K size fetch n (qs ++ ps) s′ ≡ halt-of (outcome n (qs ++ ps) s′))
+          → elim b [ goes qs s′ ↦ rewrite K size fetch n (qs ++ ps) s′ | fails f l ↦ record { ending = fault f l; left = n; store = s .store } ]
+          ≡ halt-of (elim b [ goes qs s′ ↦ outcome n (qs ++ ps) s′ | fails f l ↦ halts (fault f l) n (s .store) ])
+      go (goes qs s′) h = h qs s′
+      go (fails f l) h = refl
+
+  -- what follows an outcome
+  abbrev after : Outcome → List Pending → Outcome
+  after (through n s) ps = outcome n ps s
+  after (halts e m σ) ps = halts e m σ
+
+  sound : {ps : List Pending} {n : ℕ} {s : Situation} {o : Outcome} → Runs K size fetch ps n s o → (rest : List Pending) → outcome n (ps ++ rest) s ≡ after o rest
   sound none-left rest = refl
   sound stops rest = refl
   sound (faulted {p = p} {ps = ps} {n = n} {s = s} e) rest = stepped n p (ps ++ rest) s ∙ ap (on n (ps ++ rest) s) e
   sound (inner-halts {p = p} {ps = ps} {n = n} {s = s} e r) rest = stepped n p (ps ++ rest) s ∙ ap (on n (ps ++ rest) s) e ∙ sound r (ps ++ rest)
   sound (then-runs {p = p} {ps = ps} {n = n} {s = s} e r t) rest = stepped n p (ps ++ rest) s ∙ ap (on n (ps ++ rest) s) e ∙ sound r (ps ++ rest) ∙ sound t rest
+
+  ended : (o : Outcome) → after o [] ≡ o
+  ended (through zero s) = refl
+  ended (through (suc n) s) = refl
+  ended (halts e m σ) = refl
+
+  is-outcome : (ps : List Pending) (n : ℕ) (s : Situation) (o : Outcome) → Runs K size fetch ps n s o → o ≡ outcome n ps s
+  is-outcome ps n s o r = sym (ap (λ qs. outcome n qs s) (sym (append-nil ps)) ∙ sound r [] ∙ ended o)
+
+  -- a run halts as the rewriting does
+  pub halts-so : (ps : List Pending) (n : ℕ) (s : Situation) (o : Outcome) → Runs K size fetch ps n s o → halt-of o ≡ rewrite K size fetch n ps s
+  halts-so ps n s o r = ap halt-of (is-outcome ps n s o r) ∙ sym (rewritten n ps s)
 
   abbrev left-of : Outcome → ℕ
   left-of (through m s) = m
@@ -59,12 +92,7 @@ module _ (K : Arithmetic) (size : ℕ) (fetch : List ℕ → ℕ → Work ℕ) w
   total zero (suc n) h (p ∷ ps) s = absurd (not-suc-le-zero h)
   total (suc k) (suc n) h (p ∷ ps) s = begun k n (le-of-suc-le-suc h) (total k) p ps s (begins K size fetch p s) refl
 
-  ended : (o : Outcome) → after o [] ≡ halt-of o
-  ended (through zero s) = refl
-  ended (through (suc n) s) = refl
-  ended (halts e m σ) = refl
-
 pub agrees : Agrees
 agrees K size fetch ps n s =
     let t = total K size fetch n n (le-refl n) ps s in
-    (t .0, t .1, λ o r. sym (ended K size fetch o) ∙ sym (sound K size fetch r []) ∙ ap (λ qs. rewrite K size fetch n qs s) (append-nil ps))
+    (t .0, t .1, λ o r. is-outcome K size fetch ps n s o r ∙ sym (is-outcome K size fetch ps n s (t .0) (t .1)), sym (halts-so K size fetch ps n s (t .0) (t .1)))

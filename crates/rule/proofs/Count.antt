@@ -1,3 +1,4 @@
+-- The copy rule's own count: a run that is not stopped stays as it is with more allowance.
 use Prim.Native.Nat.{ℕ, zero, suc, _+_, _-_, _≤_, _<_}
 use native.Mathlib.Omega.{arith}
 use native.Mathlib.Nat.{suc-add, zero-add, le-refl}
@@ -13,7 +14,7 @@ use Rattle.rule.specs.CopyRule.{Outcome, through, halts, Runs}
 use Rattle.rule.specs.Laws.{halt-of}
 use Rattle.rule.specs.Closing.{Program, Closing, own-fetch, start, situation, closing-of, Closes, Stopped, Own-count, Is-over}
 use Rattle.rule.specs.Count.{Counted}
-use Rattle.rule.proofs.Agree.{agrees}
+use Rattle.rule.proofs.Agree.{agrees, halts-so}
 
 module _ (K : Arithmetic) (size : ℕ) (fetch : List ℕ → ℕ → Work ℕ) where
   abbrev on : ℕ → List Pending → Situation → Begun → Halt
@@ -89,12 +90,15 @@ module _ (K : Arithmetic) (P : Program) (size : ℕ) (g : List ℕ) where
   pub closes : (n : ℕ) → Closes K P size g n (closing n)
   closes n =
       let a = agrees K size own-fetch (start P) n (situation K P size g) in
-      (a .0, a .1, of-outcome n (a .0) ∙ ap (closing-from n) (a .2 (a .0) (a .1)))
+      (a .0, a .1, of-outcome n (a .0) ∙ ap (closing-from n) (sym (a .3)))
+
+  -- a closing that the rewriting computes
+  pub closes-by : (n : ℕ) (c : Closing) → closing n ≡ c → Closes K P size g n c
+  closes-by n c e = subst (Closes K P size g n) e (closes n)
 
   pub closes-so : (n : ℕ) (c : Closing) → Closes K P size g n c → c ≡ closing n
   closes-so n c d =
-      let a = agrees K size own-fetch (start P) n (situation K P size g) in
-      sym (d .2) ∙ of-outcome n (d .0) ∙ ap (closing-from n) (a .2 (d .0) (d .1))
+      sym (d .2) ∙ of-outcome n (d .0) ∙ ap (closing-from n) (halts-so K size own-fetch (start P) n (situation K P size g) (d .0) (d .1))
 
   pub stopped-at : (n : ℕ) → halt-at n .ending ≡ stopped → Stopped K P size g n
   stopped-at n e = (closing n, closes n, e)

@@ -1,6 +1,5 @@
 pub mod Agree
 pub mod Count
-pub mod Closings
 pub mod Compose
 pub mod Matching
 pub mod Lockstep

@@ -11,6 +11,7 @@ abbrev pub halt-of : Outcome → Halt
 halt-of (through n s) = record { ending = finished; left = n; store = s .store }
 halt-of (halts e m σ) = record { ending = e; left = m; store = σ }
 
+-- from every situation, with every allowance, the copy rule has exactly one outcome, and the rewriting halts as it does
 abbrev pub Agrees : Type 0
 Agrees = (K : Arithmetic) (size : ℕ) (fetch : List ℕ → ℕ → Work ℕ) (ps : List Pending) (n : ℕ) (s : Situation)
-    → (o : Outcome) × Runs K size fetch ps n s o × ((o′ : Outcome) → Runs K size fetch ps n s o′ → halt-of o′ ≡ rewrite K size fetch n ps s)
+    → (o : Outcome) × Runs K size fetch ps n s o × ((o′ : Outcome) → Runs K size fetch ps n s o′ → o′ ≡ o) × (rewrite K size fetch n ps s ≡ halt-of o)
