@@ -13,7 +13,7 @@ use Rattle.rule.specs.Rewriting.{Pending, Situation, Begun, goes, fails, begin
 use Rattle.rule.specs.CopyRule.{Outcome, through, halts, Runs}
 use Rattle.rule.specs.Laws.{halt-of}
 use Rattle.rule.specs.Closing.{Program, Closing, own-fetch, start, situation, closing-of, Closes, Stopped, Own-count, Is-over}
-use Rattle.rule.specs.Count.{Counted}
+use Rattle.rule.specs.Count.{Counted, Stays}
 use Rattle.rule.proofs.Agree.{agrees, halts-so}
 
 module _ (K : Arithmetic) (size : ℕ) (fetch : List ℕ → ℕ → Work ℕ) where
@@ -182,3 +182,12 @@ pub counted : Counted
 counted K P size g =
     ((λ n. ((λ i s. over-so K P size g n i (at-stopped K P size g n s)), (λ h. least K P size g n (λ e. h (stopped-at K P size g n e))), is-decided K P size g n))
     , unique K P size g)
+
+pub stays : Stays
+stays K P size g n m c d h =
+    let e = closes-so K P size g n c d in
+    let k : rewrite K size own-fetch (n + m) (start P) (situation K P size g) ≡ later K size own-fetch m (rewrite K size own-fetch n (start P) (situation K P size g)) =
+        goes-on K size own-fetch n m (start P) (situation K P size g) (λ q. h (ap (λ (x : Closing). x .ending) e ∙ q)) in
+    let l = rewrite K size own-fetch n (start P) (situation K P size g) .left in
+    let q : n + m - (l + m) ≡ n - l = omega arith in
+    closes-by K P size g (n + m) c (ap (closing-from K P size g (n + m)) k ∙ (ap (λ (i : ℕ). record { ending = closing K P size g n .ending; count = i; globals = closing K P size g n .globals }) q ∙ sym e))

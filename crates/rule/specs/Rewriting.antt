@@ -28,6 +28,7 @@ pub data Begun : Type 0 where
   goes : List Pending → Situation → Begun
   fails : ℕ → ℕ → Begun
 
+-- what a value is used for; its fault is the statement's, on its line
 abbrev pub worked : {A : Type 0} → ℕ → Work A → (A → Begun) → Begun
 worked l (gives a) f = f a
 worked l (faults n) f = fails n l
@@ -37,10 +38,12 @@ abbrev pub entered : (size line level used more : ℕ) → Begun → Begun
 entered size line level used more b =
     elim (ltb level 512) [ true ↦ elim (leb (used + more) size) [ true ↦ b | false ↦ fails 25 line ] | false ↦ fails 24 line ]
 
+-- n cells from a place on, each set to a word
 abbrev pub cleared : ℕ → ℕ → ℕ → List ℕ → List ℕ
 cleared zero at w σ = σ
 cleared (suc n) at w σ = cleared n (suc at) w (set σ at w)
 
+-- how many procedures a system has
 abbrev pub counted : Declarations → ℕ
 counted (procedure l q x y s) = 1
 counted (joined d e) = counted d + counted e
@@ -50,6 +53,7 @@ abbrev pub renamed : Declarations → ℕ → (ℕ → ℕ) → ℕ → ℕ
 renamed (procedure l q x y s) f g = only q f g
 renamed (joined d e) f g = renamed e (f + counted d) (renamed d f g)
 
+-- what those fresh names stand for: the procedures, with their bodies rewritten
 abbrev pub known : Declarations → ℕ → Replacement → Names → Names
 known (procedure l q x y s) f r E = only f (code x y (in-statement r s)) E
 known (joined d e) f r E = known e (f + counted d) r (known d f r E)
@@ -62,6 +66,7 @@ module _ (K : Arithmetic) (size : ℕ) (fetch : List ℕ → ℕ → Work ℕ) w
       next (value K (s .names) (fetch (s .store)) i) (λ w. next (indexed (K .index w)) (λ n. next (element-of (s .names a) n) (λ c. gives (fixed a n))))
   settled s (fixed a n) = gives (fixed a n)
 
+  -- a call of what a name stands for: a copy of the body, with a fresh name for the value formal, whose cell holds the word w, and p for the variable formal
   abbrev pub copied : Standing → (line level used : ℕ) → Situation → ℕ → Place → Begun
   copied nothing line level used s w p = fails 0 line
   copied (cell n) line level used s w p = fails 0 line
@@ -71,6 +76,7 @@ module _ (K : Arithmetic) (size : ℕ) (fetch : List ℕ → ℕ → Work ℕ) w
       (goes (record { text = in-statement (for-simple y p) (in-statement (for-simple x (simple (s .fresh))) body); level = level + 1; used = used + 1 } ∷ [])
       (record { names = only (s .fresh) (cell used) (s .names); fresh = s .fresh + 1; store = set (s .store) used w }))
 
+  -- beginning a statement, at its level and with the cells in use there
   abbrev pub begin : Statement → (level used : ℕ) → Situation → Begun
   begin (assign l p e) level used s =
       worked l (value K (s .names) (fetch (s .store)) e) (λ w. worked l (cell-at K (s .names) (fetch (s .store)) p) (λ c.
@@ -115,6 +121,7 @@ out-of-allowance [] s = record { ending = finished; left = 0; store = s .store }
 out-of-allowance (p ∷ ps) s = record { ending = stopped; left = 0; store = s .store }
 
 module _ (K : Arithmetic) (size : ℕ) (fetch : List ℕ → ℕ → Work ℕ) where
+  -- the run of the text that is left, one begun statement at a time
   abbrev pub rewrite : ℕ → List Pending → Situation → Halt
   rewrite zero ps s = out-of-allowance ps s
   rewrite (suc n) [] s = record { ending = finished; left = suc n; store = s .store }

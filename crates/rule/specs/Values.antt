@@ -21,19 +21,23 @@ cell-of (cell n) = gives n
 cell-of (cells b n) = faults 0
 cell-of (code x y s) = faults 0
 
+-- the cell of element i of n cells from b on; past them it is fault 23
 abbrev pub within : ℕ → ℕ → ℕ → Work ℕ
 within b n i = elim (ltb i n) [ true ↦ gives (b + i) | false ↦ faults 23 ]
 
+-- the cell of an element of what a name stands for
 abbrev pub element-of : Standing → ℕ → Work ℕ
 element-of nothing i = faults 0
 element-of (cell n) i = faults 0
 element-of (cells b n) i = within b n i
 element-of (code x y s) i = faults 0
 
+-- a word that is no index is fault 23
 abbrev pub indexed : Option ℕ → Work ℕ
 indexed None = faults 23
 indexed (Some i) = gives i
 
+-- "a implies b"; both sides have been worked
 abbrev pub material : Bool → Bool → Bool
 material a b = cond a b true
 
@@ -48,19 +52,23 @@ abbrev pub compare : Arithmetic → Relation → ℕ → ℕ → Bool
 compare K Equal v w = K .equal v w
 compare K Less v w = K .less v w
 
+-- Values, with what each name stands for (E) and how a cell is read (fetch). Parts are worked from left to right, and the first fault ends it.
 module _ (K : Arithmetic) (E : Names) (fetch : ℕ → Work ℕ) where
   abbrev mutual
+    -- the cell of a place
     pub cell-at : Place → Work ℕ
     cell-at (simple x) = cell-of (E x)
     cell-at (element a i) = next (value i) (λ w. next (indexed (K .index w)) (element-of (E a)))
     cell-at (fixed a i) = element-of (E a) i
 
+    -- the word of an expression; of a choice only the condition and the chosen part are worked
     pub value : Expression → Work ℕ
     value (constant n) = gives (K .constant n)
     value (word-of p) = next (cell-at p) fetch
     value (work o a b) = next (value a) (λ v. next (value b) (operate K o v))
     value (choose c a b) = let x = value a in let y = value b in next (holds c) (λ t. elim t [ true ↦ x | false ↦ y ])
 
+    -- whether a condition holds
     pub holds : Condition → Work Bool
     holds (truth b) = gives b
     holds (compared r a b) = next (value a) (λ v. next (value b) (λ w. gives (compare K r v w)))
