@@ -10,7 +10,8 @@ use Rattle.script.specs.Apart.{as-global, head-then, heads, past-globals}
 use Rattle.script.specs.Scoped.{declaring-lines}
 use Rattle.script.proofs.Declared.{lines-once, lines-within}
 use Rattle.rule.specs.Agreement.{Accepted-agrees}
-use Rattle.rule.proofs.InOrder.{told-agrees, each-map}
+use Rattle.script.proofs.Lists.{each-map}
+use Rattle.rule.proofs.InOrder.{told-agrees}
 
 heads-few : (ls : List Line) → length (heads ls) ≤ length ls
 heads-few [] = omega arith

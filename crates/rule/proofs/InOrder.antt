@@ -17,6 +17,7 @@ use lib.ListN.{length}
 use Rattle.script.specs.Lists.{Each, Each-once}
 use Rattle.script.specs.Scoped.{declaring-lines, declaring-lines-of, Among, Scoped-place, Scoped-expression, Scoped-condition, Scoped, Scoped-declarations}
 use Rattle.rule.specs.Agreement.{Told-agrees}
+use Rattle.script.proofs.Lists.{each-map, each-zip, each-left, each-right}
 use Rattle.rule.proofs.Compose.{same-or-not, differ, here, there}
 use Rattle.rule.proofs.Matching.{unlike}
 use Rattle.rule.proofs.Simulation.{machine-agrees}
@@ -26,22 +27,6 @@ module _ {A : Type 0} where
   each-all : (P : A → Type 0) → ((a : A) → P a) → (us : List A) → Each P us
   each-all P h [] = tt
   each-all P h (a ∷ us) = (h a, each-all P h us)
-
-  pub each-map : (P Q : A → Type 0) → ((a : A) → P a → Q a) → (us : List A) → Each P us → Each Q us
-  each-map P Q h [] e = tt
-  each-map P Q h (a ∷ us) e = (h a (e .0), each-map P Q h us (e .1))
-
-  pub each-zip : (P Q R : A → Type 0) → ((a : A) → P a → Q a → R a) → (us : List A) → Each P us → Each Q us → Each R us
-  each-zip P Q R h [] e f = tt
-  each-zip P Q R h (a ∷ us) e f = (h a (e .0) (f .0), each-zip P Q R h us (e .1) (f .1))
-
-  pub each-left : (P : A → Type 0) (us bs : List A) → Each P (us ++ bs) → Each P us
-  each-left P [] bs e = tt
-  each-left P (a ∷ us) bs e = (e .0, each-left P us bs (e .1))
-
-  pub each-right : (P : A → Type 0) (us bs : List A) → Each P (us ++ bs) → Each P bs
-  each-right P [] bs e = e
-  each-right P (a ∷ us) bs e = each-right P us bs (e .1)
 
   each-swap : (R : A → A → Type 0) (us bs : List A) → Each (λ a. Each (R a) bs) us → Each (λ b. Each (λ a. R a b) us) bs
   each-swap R [] bs e = each-all (λ b. Unit {0}) (λ b. tt) bs

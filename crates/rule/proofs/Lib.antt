@@ -8,3 +8,4 @@ pub mod InOrder
 pub mod Accepted
 pub mod Resume
 pub mod Local
+pub mod Inner

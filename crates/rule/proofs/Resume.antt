@@ -1,3 +1,4 @@
+-- Running n statements and then m is running n + m.
 use Prim.Native.Nat.{ℕ, zero, suc, _+_}
 use native.Mathlib.Nat.{suc-add, zero-add}
 use mathlib.Core.Path.{_≡_, refl, sym, _∙_, ap}

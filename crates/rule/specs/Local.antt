@@ -8,7 +8,12 @@ use Rattle.rule.specs.Work.{Work}
 use Rattle.script.specs.Names.{Names, Standing, nothing, cell, cells, code}
 use Rattle.rule.specs.Rewriting.{Halt}
 use Rattle.rule.specs.Machine.{Env, outside, simple-in, array-in, system-in, Item, machine}
-use Rattle.rule.specs.Closing.{own-fetch}
+use Rattle.lines.specs.declared.records.Line.{Line}
+use Rattle.script.specs.Apart.{globals-of, statement-apart, first-fresh}
+use Rattle.script.specs.IsScript.{Is-script}
+use Rattle.rule.specs.Closing.{own-fetch, program-of, start}
+use Rattle.rule.specs.Rewriting.{rewrite}
+use lib.IntN.{ℤ}
 
 -- cells of a name below u
 abbrev pub Sits : ℕ → Standing → Type 0
@@ -41,3 +46,11 @@ abbrev pub Local : Type 0
 Local = (K : Arithmetic) (size : ℕ) (G : Names) (taken : ℕ) → ((z : ℕ) → Sits taken (G z))
     → (n u : ℕ) (ps : List Item) (σ τ : List ℕ) → Orderly taken u ps → Agree u σ τ
     → Same-halt taken (machine K size own-fetch G n ps σ) (machine K size own-fetch G n ps τ)
+
+-- a script's runs by the copy rule, from stores of one length that agree on the globals' cells: equal endings, allowances left and globals,
+-- whatever the other cells hold
+abbrev pub Globals-suffice : Type 0
+Globals-suffice = (K : Arithmetic) (size : ℕ) (low high : ℤ) (ls : List Line) → length ls ≤ 2048 → (s : Is-script low high ls)
+    → (n : ℕ) (σ τ : List ℕ) → Agree (globals-of ls .taken) σ τ
+    → let run : List ℕ → Halt = λ store. rewrite K size own-fetch n (start (program-of ls (s .text))) (record { names = globals-of ls .names; fresh = first-fresh; store = store }) in
+    Same-halt (globals-of ls .taken) (run σ) (run τ)

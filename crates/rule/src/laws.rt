@@ -3,7 +3,7 @@ ghost use Rattle.rule.specs.Agreement.{Accepted-agrees};
 ghost use Rattle.rule.specs.Count.{Counted, Stays};
 ghost use Rattle.rule.specs.Fine.{Machine-agrees};
 ghost use Rattle.rule.specs.Laws.{Agrees};
-ghost use Rattle.rule.specs.Local.{Local};
+ghost use Rattle.rule.specs.Local.{Globals-suffice, Local};
 ghost use Rattle.rule.specs.Resume.{Resumes};
 
 // A run by the rule always has exactly one outcome, and rewriting the text that is left gives it.
@@ -36,7 +36,12 @@ pub fn resumes()
     ensures { λ _. ⌜ Resumes ⌝ }
 {}
 
-// Cells that are not in use do not matter: stores that agree on the cells in use give equal endings, counts and globals.
+// Cells that are not in use do not matter to the machine,
 pub fn runs_locally()
     ensures { λ _. ⌜ Local ⌝ }
+{}
+
+// and so a script's run by the rule depends on the globals alone, whatever the other cells hold.
+pub fn globals_suffice()
+    ensures { λ _. ⌜ Globals-suffice ⌝ }
 {}
