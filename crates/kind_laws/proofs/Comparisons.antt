@@ -158,7 +158,7 @@ compared w n l h =
     (in-units (round binary32 false n 1) false n (round-whole binary32 false n (omega arith))) (word-value w l)
 
 pub indexes : (w : ℕ) → T (lawful w) → Index w (index w)
-indexes w l = record { only = only; each = each }
+indexes w l = record { only = only; each = each; of-constant = of-constant }
   where
     only : (n : ℕ) → index w ≡ Some n → (n < 16777216) × (units w ≡ pos (n * one))
     only n e =
@@ -173,3 +173,11 @@ indexes w l = record { only = only; each = each }
         let t : eq (ofInt binary32 (pos n)) (number w) ≡ true = compared w n l h .1 (sym e) in
         whole-is (number w) n (cut-at (number w) n (lawful-finite w l) h t)
         ∙ cond-true (ltb n 16777216 && eq (ofInt binary32 (pos n)) (number w)) (Some n) None (and-from (ltb n 16777216) (eq (ofInt binary32 (pos n)) (number w)) (lt-ltb n 16777216 h) t)
+
+    of-constant : (n : ℕ) → n < 16777216
+        → (index w ≡ Some n → Single.single .equal w (constant (pos n)) ≡ true) × (Single.single .equal w (constant (pos n)) ≡ true → index w ≡ Some n)
+    of-constant n h =
+        let k : T (holds Single.single (pos n)) = grind (arith, tells) in
+        let u : units (constant (pos n)) ≡ pos (n * one) = constant-units (pos n) k in
+        let e = equality w (constant (pos n)) l (constant-lawful (pos n) k) in
+        (λ q. e .1 (only n q .1 ∙ sym u), λ t. each n h (e .0 t ∙ u))

@@ -20,10 +20,12 @@ abbrev pub Constant : ℤ → Option ℕ → Type 0
 Constant z (Some w) = T (holds single z) × T (lawful w) × (units w ≡ z *ℤ pos one)
 Constant z None = holds single z ≡ false
 
--- n exactly where the number is n, and n is below 16777216
+-- n exactly where the number is n, and n is below 16777216; that is, exactly where the word equals the constant n
 pub record Index (w : ℕ) (r : Option ℕ) : Type 0 where
   pub only : (n : ℕ) → r ≡ Some n → (n < 16777216) × (units w ≡ pos (n * one))
   pub each : (n : ℕ) → n < 16777216 → units w ≡ pos (n * one) → r ≡ Some n
+  pub of-constant : (n : ℕ) → n < 16777216
+      → (r ≡ Some n → single .equal w (single .constant (pos n)) ≡ true) × (single .equal w (single .constant (pos n)) ≡ true → r ≡ Some n)
 
 -- Single compares numbers, and gives constants and indexes, as said above
 abbrev pub Equality-is-of-numbers : Type 0
