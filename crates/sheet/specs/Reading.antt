@@ -16,26 +16,30 @@ use Rattle.lines.specs.declared.refusals.Cause.the-variants.{TextSize, Form, Ro
 use Rattle.lines.specs.declared.refusals.Refusal.{Refusal}
 use Rattle.lines.specs.Reading.{line-reading}
 
--- The same of a line as it stands in the text, which has first to be within 2,048 lines and the records lent, and then to be closed.
+-- what line n of a text says, or why it is refused, if there is room for it: it has to be closed, and then to read as `line-reading` says
 abbrev pub row-reading : ℕ → Row → Result Line Cause
 row-reading n (closed l) = line-reading n l
 row-reading n (unclosed l) = Err Form
 
+-- The same with `room` records lent: line 2,049, and a line that no record is left for, are refused before anything else.
 abbrev pub reading : ℕ → ℕ → Row → Result Line Cause
 reading room n row = cond (leb n 2048 && leb n room) (row-reading n row) (Err Room)
 
--- What the lines from line n on give: the lines before the first that is refused, and that refusal, if any.
+-- what reading gives: the lines before the first that is refused, and that refusal, if any
 pub record Outcome : Type 0 where
   pub lines : List Line
   pub refusal : Option Refusal
 
+-- nothing read, and a refusal
 abbrev pub refused : Cause → ℕ → Outcome
 refused c n = record { lines = []; refusal = Some (record { cause = c; line = n }) }
 
+-- a line's own reading, before what the lines after it give
 abbrev pub then-outcome : ℕ → Result Line Cause → Outcome → Outcome
 then-outcome n (Err c) o = refused c n
 then-outcome n (Ok l) o = record { lines = l ∷ o .lines; refusal = o .refusal }
 
+-- the lines from line n on, read in order up to the first that is refused
 unfoldable pub from-line : ℕ → ℕ → List Row → Outcome
 from-line room n [] = record { lines = []; refusal = None }
 from-line room n (row ∷ rows) = then-outcome n (reading room n row) (from-line room (suc n) rows)
