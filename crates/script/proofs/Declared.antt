@@ -1,5 +1,5 @@
 -- A script's declaring lines are distinct, behind the globals and lines of the sheet.
-use Prim.Native.Nat.{_≤_, ℕ}
+use Prim.Native.Nat.{_<_, _≤_, ℕ}
 use native.Mathlib.Omega.{arith}
 use mathlib.Core.List.{List}
 use mathlib.Core.Path.{subst}
@@ -23,5 +23,5 @@ module _ (low high : ℤ) (ls : List Line) (s : Is-script low high ls) where
   lines-range : (l : ℕ) → 1 ≤ times l (declaring-lines (s .text)) → (past-globals ls ≤ l) × (l ≤ length ls)
   lines-range = subst (λ p. (l : ℕ) → 1 ≤ times l (declaring-lines-in p) → (past-globals ls ≤ l) × (l ≤ length ls)) (s .is) (declares-range (line ls) (length ls) (past-globals ls) (front-of ls) (the-form low high ls s))
 
-  pub lines-within : (k : ℕ) → length ls ≤ k → Each (λ l. (past-globals ls ≤ l) × (l ≤ k)) (declaring-lines (s .text))
-  lines-within k h = each-from (λ l. (past-globals ls ≤ l) × (l ≤ k)) (declaring-lines (s .text)) (λ l q. let w : (past-globals ls ≤ l) × (l ≤ length ls) = lines-range l q in (w .0, omega arith))
+  pub lines-within : (k : ℕ) → length ls < k → Each (λ l. (past-globals ls ≤ l) × (l < k)) (declaring-lines (s .text))
+  lines-within k h = each-from (λ l. (past-globals ls ≤ l) × (l < k)) (declaring-lines (s .text)) (λ l q. let w : (past-globals ls ≤ l) × (l ≤ length ls) = lines-range l q in (w .0, omega arith))

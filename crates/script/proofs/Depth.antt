@@ -3,8 +3,10 @@ use Prim.Native.Nat.{_<_, _≤_, max, suc, zero, ℕ}
 use native.Mathlib.Omega.{arith}
 use mathlib.Core.Bool.{Bool, false, true}
 use mathlib.Core.List.{List, [], _∷_}
+use mathlib.Core.Logic.{inl, inr}
 use mathlib.Core.Path.{_∙_, _≡_, ap, ap₂, refl, sym}
 use lib.ListN.{getD}
+use Rattle.std.proofs.shelf.Tests.{cases-lt}
 use Rattle.lines.specs.declared.records.Line.{Line}
 use Rattle.lines.specs.declared.records.Line.the-variants as Line
 use Rattle.script.specs.Script.{Expression}
@@ -16,6 +18,7 @@ use Rattle.script.specs.Tests.{deepest, depth-of, has-depth}
 use Rattle.script.proofs.Lists.{each-map}
 use Rattle.script.proofs.Grow.{grow-at}
 use Rattle.script.proofs.Made.{Made, Something, made, nothing-there, worded, worded-same}
+use Rattle.script.proofs.Globals.{a-global}
 use Rattle.script.proofs.Form.{In-form, names-of, some-part}
 use Rattle.script.proofs.Spread.{Behind, behind}
 
@@ -61,10 +64,17 @@ module _ (L : ℕ → Line) (N G : ℕ) (front : (n : ℕ) → n < G → is-noth
   abbrev when-deep : Bool → ℕ → ℕ
   when-deep b d = elim b [ true ↦ suc d | false ↦ 0 ]
 
-  pub depth-is : (k n : ℕ) → n < k → G ≤ n → n ≤ N → at-line depth-of L n ≡ depth (part L n)
+  depth-is : (k n : ℕ) → n < k → G ≤ n → n ≤ N → at-line depth-of L n ≡ depth (part L n)
   depth-is zero n q r s = absurd (omega arith)
   depth-is (suc k) n q r s = ap (when-deep (has-depth (class-of (L n))))
       (deepest-same (λ m. getD (grow depth-of L n) m 0) (λ m. depth (getD (grow grown L n) m other)) (names-of L n)
       (each-map (Behind L N G front i n) (λ m. getD (grow depth-of L n) m 0 ≡ depth (getD (grow grown L n) m other))
       (λ m b. grow-at depth-of L 0 n m (b .1) ∙ depth-is k m (omega arith) (b .0) (omega arith) ∙ sym (ap depth (grow-at grown L other n m (b .1)))) (names-of L n) (behind L N G front i n s)))
       ∙ sym (depth-step n (grow grown L n) (L n) (some-part L N G front i n r s))
+
+  pub depth-here : (n : ℕ) → n ≤ N → at-line depth-of L n ≡ depth (part L n)
+  depth-here n q = elim (cases-lt n G) [
+    | inl w ↦ let g : (a b : ℕ) × (L n ≡ Line.Global a b) = a-global (L n) (front n w) in
+        ap (depth-of n (grow depth-of L n)) (g .2) ∙ sym (ap (λ l. depth (grown n (grow grown L n) l)) (g .2))
+    | inr w ↦ depth-is (suc n) n (omega arith) w q
+  ]

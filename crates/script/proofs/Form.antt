@@ -136,8 +136,8 @@ module _ (L : ℕ → Line) where
 
 -- ## In form
 
--- ## In form
-
+-- N is the last line, and G the first behind the globals: every field names an earlier line of the class wanted, every line behind the
+-- globals is of the text and is named once, but for the last, a statement
 pub record In-form (L : ℕ → Line) (N G : ℕ) : Type 0 where
   pub fit : (n : ℕ) → n ≤ N → Each (λ f. (f .1 < n) × (fits (f .0) (class-of (L (f .1))) ≡ true)) (fields (L n))
   pub once : (m : ℕ) → times m (named L (suc N)) ≤ 1

@@ -12,7 +12,9 @@ pub mod Depth
 pub mod Declaring
 pub mod Distinct
 pub mod Lowest
+pub mod Finds
 pub mod Accept
 pub mod Faults
 pub mod Verdict
 pub mod Declared
+pub mod Passes

@@ -8,6 +8,7 @@ use mathlib.Core.Path.{_∙_, _≡_, ap, ap₂, refl, subst, sym}
 use Rattle.std.proofs.shelf.Tests.{both-ways, cases-eq, cases-order}
 use Rattle.std.specs.declared.option.Option.{Option}
 use Rattle.std.specs.declared.option.Option.the-variants.{None, Some}
+use Rattle.script.specs.Lists.{Each}
 use Rattle.script.specs.Causes.{Reason, number-of}
 use Rattle.script.specs.Tests.{first-refusal, lowest, or-here, or-later}
 
@@ -47,8 +48,7 @@ module _ (t : Reason → ℕ → Bool) (k : ℕ) where
   Refused-by (r ∷ rs) c n = ((c ≡ number-of r) × Lowest (t r) k n) ⊎ (None-below (t r) k × Refused-by rs c n)
 
   abbrev pub All-none : List Reason → Type 0
-  All-none [] = Unit {0}
-  All-none (r ∷ rs) = None-below (t r) k × All-none rs
+  All-none rs = Each (λ r. None-below (t r) k) rs
 
   abbrev first : List Reason → Option (ℕ × ℕ)
   first rs = first-refusal t k rs

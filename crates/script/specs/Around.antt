@@ -9,7 +9,7 @@ use Rattle.script.specs.Apart.{Scope, own, own-value, own-variable, with-array
 use Rattle.script.specs.Lists.{times}
 use Rattle.script.specs.Fields.{fields, named-in}
 
--- what a line does with names
+-- what a line does with names (a global declares one too, for the whole text: those come first, see specs/Apart)
 pub data Naming : Type 0 where
   silent : Naming
   -- it uses the name of a simple variable, an array, a procedure
@@ -49,6 +49,7 @@ abbrev pub procedures : Declarations → List (ℕ × ℕ)
 procedures (procedure l q x y b) = (l, q) ∷ []
 procedures (joined d e) = procedures d ++ procedures e
 
+-- the procedures of a part: none, but of declarations
 abbrev pub procedures-of : Part → List (ℕ × ℕ)
 procedures-of (place p) = []
 procedures-of (expression e) = []

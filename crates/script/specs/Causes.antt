@@ -11,9 +11,9 @@ use Rattle.lines.specs.declared.records.Line.{Line}
 use Rattle.lines.specs.declared.records.Line.the-variants as Line
 use Rattle.script.specs.Tree.{line, part}
 use Rattle.script.specs.Apart.{Scope, globals-of}
-use Rattle.script.specs.Lists.{Any, times}
+use Rattle.script.specs.Lists.{Any, Each, times}
 use Rattle.script.specs.Scoped.{Among}
-use Rattle.script.specs.Fields.{class-of, fields, fits, is-nothing, is-statement, named-in}
+use Rattle.script.specs.Fields.{Field, class-of, fields, fits, is-nothing, is-statement, named-in}
 use Rattle.script.specs.Around.{fellows-at, scope-at}
 use Rattle.script.specs.Depth.{deepest-allowed, depth}
 use Rattle.script.specs.IsScript.{same-sort}
@@ -23,26 +23,38 @@ module _ (L : ℕ → Line) (N : ℕ) where
   abbrev pub Names-line : ℕ → ℕ → Type 0
   Names-line j m = 1 ≤ times m (named-in (fields (L j)))
 
-  -- 6: a field of line n names no earlier line of the class wanted
+  -- a field of line n is right: it names an earlier line of the class wanted
+  abbrev pub Right-field : ℕ → Field → Type 0
+  Right-field n f = (f .1 < n) × (fits (f .0) (class-of (L (f .1))) ≡ true)
+
+  -- 6: not every field of line n is right
   abbrev pub Names-amiss : ℕ → Type 0
-  Names-amiss n = Any (λ f. ¬ ((f .1 < n) × (fits (f .0) (class-of (L (f .1))) ≡ true))) (fields (L n))
+  Names-amiss n = ¬ (Each (Right-field n) (fields (L n)))
 
   -- 6: line n names a line that an earlier line names, or one line twice
   abbrev pub Names-again : ℕ → Type 0
   Names-again n = (m : ℕ) × Names-line n m × (((j : ℕ) × (j < n) × Names-line j m) ⊎ (2 ≤ times m (named-in (fields (L n)))))
 
+  -- line n is a global, or else belongs to the text
+  abbrev pub Is-global : ℕ → Type 0
+  Is-global n = is-nothing (class-of (L n)) ≡ true
+
+  abbrev pub In-text : ℕ → Type 0
+  In-text n = is-nothing (class-of (L n)) ≡ false
+
   -- 6: line n, not the last and no global, is named by none
   abbrev pub Unnamed : ℕ → Type 0
-  Unnamed n = (n < N) × (is-nothing (class-of (L n)) ≡ false) × ((j : ℕ) → j ≤ N → ¬ (Names-line j n))
+  Unnamed n = (n < N) × In-text n × ((j : ℕ) → j ≤ N → ¬ (Names-line j n))
 
   -- 6: line n is a global and an earlier one is not
   abbrev pub Late-global : ℕ → Type 0
-  Late-global n = (is-nothing (class-of (L n)) ≡ true) × ((m : ℕ) × (m < n) × (is-nothing (class-of (L m)) ≡ false))
+  Late-global n = Is-global n × ((m : ℕ) × (m < n) × In-text m)
 
   -- 6: line n is the last and no statement
   abbrev pub Ends-amiss : ℕ → Type 0
   Ends-amiss n = (n ≡ N) × (is-statement (class-of (L n)) ≡ false)
 
+  -- 6: line n stands out of the form of a statement's tree behind some globals
   abbrev pub Out-of-form : ℕ → Type 0
   Out-of-form n = Names-amiss n ⊎ (Names-again n ⊎ (Unnamed n ⊎ (Late-global n ⊎ Ends-amiss n)))
 
@@ -54,6 +66,7 @@ module _ (L : ℕ → Line) (N : ℕ) where
   abbrev pub Procedure-again : ℕ → Type 0
   Procedure-again n = (q x y b : ℕ) × (L n ≡ Line.Procedure q x y b) × ((x ≡ y) ⊎ Any (λ r. (r .0 < n) × (r .1 ≡ q)) (fellows-at L N n))
 
+  -- 8: line n declares a name again
   abbrev pub Name-again : ℕ → Type 0
   Name-again n = Global-again n ⊎ Procedure-again n
 
@@ -100,10 +113,11 @@ Fault low high ls undeclared n = Undeclared (line ls) (length ls) (globals-of ls
 Fault low high ls too-deep n = Too-deep (line ls) (length ls) n
 Fault low high ls out-of-kind n = Out-of-kind (line ls) (length ls) low high n
 
--- no line below k has the fault; line n is the lowest that has it
+-- no line below k has the fault C
 abbrev pub Without : (ℕ → Type 0) → ℕ → Type 0
 Without C k = (m : ℕ) → m < k → ¬ (C m)
 
+-- line n, below k, is the lowest that has it
 abbrev pub Lowest-with : (ℕ → Type 0) → ℕ → ℕ → Type 0
 Lowest-with C k n = (n < k) × C n × Without C n
 

@@ -33,6 +33,7 @@ class-of (Line.System a b) = of-statement
 class-of (Line.Procedure a b c d) = of-declarations
 class-of (Line.Join a b) = of-declarations
 
+-- the classes told apart by numbers, of no meaning but that
 abbrev rank : Class → ℕ
 rank of-nothing = 0
 rank of-place = 1
@@ -44,6 +45,7 @@ rank of-declarations = 5
 abbrev pub same-class : Class → Class → Bool
 same-class c d = eqb (rank c) (rank d)
 
+-- a global is nothing in the text
 abbrev pub is-nothing : Class → Bool
 is-nothing c = same-class c of-nothing
 
@@ -89,6 +91,7 @@ abbrev pub gathered : List (List ℕ) → List ℕ → List ℕ
 gathered ts [] = []
 gathered ts (m ∷ ms) = getD ts m [] ++ gathered ts ms
 
+-- the tree at line n, from those of the lines before it
 abbrev pub tree-of : ℕ → List (List ℕ) → Line → List ℕ
 tree-of n ts l = n ∷ gathered ts (named-in (fields l))
 

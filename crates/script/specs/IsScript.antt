@@ -44,7 +44,8 @@ abbrev mutual
   Distinct-bodies (procedure l q x y b) = (¬ (x ≡ y)) × Distinct b
   Distinct-bodies (joined d e) = Distinct-bodies d × Distinct-bodies e
 
--- A sheet is a script of the number kind with the constants from low to high: some globals, and then the lines of one statement's tree.
+-- A sheet is a script of the number kind with the constants from low to high: some globals, and then exactly the lines of one statement's
+-- tree, each once. (Parts stand before wholes, since a line's part grows from those of earlier lines alone; a global grows to no part.)
 pub record Is-script (low high : ℤ) (ls : List Line) : Type 0 where
   -- the last line, with the lines that it names and those that they name, is a statement
   pub text : Statement

@@ -48,7 +48,7 @@ abbrev pub names-again : (ℕ → Line) → ℕ → Bool
 names-again L n = again (named L n) (named-in (fields (L n)))
 
 abbrev pub is-unnamed : (ℕ → Line) → ℕ → ℕ → Bool
-is-unnamed L N n = (ltb n N && not (is-nothing (class-of (L n)))) && eqb (times n (named L (suc N))) 0
+is-unnamed L N n = ltb n N && (not (is-nothing (class-of (L n))) && eqb (times n (named L (suc N))) 0)
 
 abbrev pub late-global : (ℕ → Line) → ℕ → ℕ → Bool
 late-global L G n = leb G n && is-nothing (class-of (L n))
@@ -61,11 +61,13 @@ form-amiss L N G n = names-amiss L n || (names-again L n || (is-unnamed L N n ||
 
 -- ## Names
 
+-- two globals, each by its name and length, of one name and sort
 abbrev pub same-global : Option (ℕ × ℕ) → Option (ℕ × ℕ) → Bool
 same-global None o = false
 same-global (Some g) None = false
 same-global (Some g) (Some h) = eqb (g .0) (h .0) && same-sort (g .1) (h .1)
 
+-- a number below k passes the test t
 abbrev pub any-below : (ℕ → Bool) → ℕ → Bool
 any-below t zero = false
 any-below t (suc k) = t k || any-below t k
@@ -108,9 +110,11 @@ procedures-by Q n (joins a b) = Q a ++ Q b
 abbrev pub procedures-at : ℕ → List (List (ℕ × ℕ)) → Line → List (ℕ × ℕ)
 procedures-at n qs l = procedures-by (λ m. getD qs m []) n (naming l)
 
+-- the procedures under line n, each line's grown from those of the lines before it
 abbrev pub under : (ℕ → Line) → ℕ → List (ℕ × ℕ)
 under = at-line procedures-at
 
+-- what `fellows-at` is on a sheet in form, by lines alone
 abbrev pub fellows-by-lines : (ℕ → Line) → ℕ → ℕ → List (ℕ × ℕ)
 fellows-by-lines L N n = around (fellows (under L)) [] L N N n
 
@@ -141,6 +145,7 @@ declared-by s (joins a b) = true
 abbrev pub declared : Scope → Line → Bool
 declared s l = declared-by s (naming l)
 
+-- what `scope-at` is on a sheet in form, by lines alone
 abbrev pub scope-by-lines : (ℕ → Line) → ℕ → Scope → ℕ → Scope
 scope-by-lines L N s n = around (inside (under L)) s L N N n
 
@@ -149,14 +154,16 @@ not-declared L N s n = not (declared (scope-by-lines L N s n) (L n))
 
 -- ## Limits
 
--- the depth at line n, from those at the lines that it names
+-- lines that have a depth: expressions and conditions
 abbrev pub has-depth : Class → Bool
 has-depth c = fits of-expression c || fits of-condition c
 
+-- the greatest of the depths d of some lines
 abbrev pub deepest : (ℕ → ℕ) → List ℕ → ℕ
 deepest d [] = 0
 deepest d (m ∷ ms) = max (d m) (deepest d ms)
 
+-- the depth at line n, from those at the lines before it
 abbrev pub depth-of : ℕ → List ℕ → Line → ℕ
 depth-of n ds l = elim (has-depth (class-of l)) [ true ↦ suc (deepest (λ m. getD ds m 0) (named-in (fields l))) | false ↦ 0 ]
 
