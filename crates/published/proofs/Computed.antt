@@ -32,8 +32,8 @@ text ls = the-statement (part (line ls) (length ls))
 
 -- a closing that rewriting computes
 closes : (ls : List Line) (size : ℕ) (g : List ℕ) (n : ℕ) (c : Closing)
-  → closing whole (program-of ls (text ls)) size g n ≡ c
-  → (s : Is-script (whole .least) (whole .most) ls) → Closes whole (program-of ls (s .text)) size g n c
+    → closing whole (program-of ls (text ls)) size g n ≡ c
+    → (s : Is-script (whole .least) (whole .most) ls) → Closes whole (program-of ls (s .text)) size g n c
 closes ls size g n c h s = subst (λ t. Closes whole (program-of ls t) size g n c) (ap the-statement (s .is)) (closes-by whole (program-of ls (text ls)) size g n c h)
 
 pub published : Published

@@ -47,7 +47,7 @@ module _ (K : Arithmetic) (size : ℕ) (fetch : List ℕ → ℕ → Work ℕ) w
       ∙ sym (ap (later m) (stepped n p ps s))
     where
       go : (b : Begun) → ((qs : List Pending) (s′ : Situation) → ¬ (rewrite K size fetch n (qs ++ ps) s′ .ending ≡ stopped)
-              → rewrite K size fetch (n + m) (qs ++ ps) s′ ≡ later m (rewrite K size fetch n (qs ++ ps) s′))
+          → rewrite K size fetch (n + m) (qs ++ ps) s′ ≡ later m (rewrite K size fetch n (qs ++ ps) s′))
           → ¬ (on n ps s b .ending ≡ stopped) → on (n + m) ps s b ≡ later m (on n ps s b)
       go (goes qs s′) ih k = ih qs s′ k
       go (fails f l) ih k = refl
@@ -113,7 +113,7 @@ module _ (K : Arithmetic) (P : Program) (size : ℕ) (g : List ℕ) where
   over-later n m h o e =
       let k : n + (m - n) ≡ m = omega arith in
       o (ap (λ (x : Halt). x .ending) (sym (goes-on K size own-fetch n (m - n) (start P) (situation K P size g) o))
-         ∙ ap (λ (j : ℕ). halt-at j .ending) k ∙ e)
+      ∙ ap (λ (j : ℕ). halt-at j .ending) k ∙ e)
 
   decided : (n : ℕ) → Dec (halt-at n .ending ≡ stopped)
   decided n = go (halt-at n .ending)
@@ -179,15 +179,16 @@ module _ (K : Arithmetic) (P : Program) (size : ℕ) (g : List ℕ) where
   false-over n h i = true-not-false (over-true n i) h
 
 pub counted : Counted
-counted K P size g =
-    ((λ n. ((λ i s. over-so K P size g n i (at-stopped K P size g n s)), (λ h. least K P size g n (λ e. h (stopped-at K P size g n e))), is-decided K P size g n))
-    , unique K P size g)
+counted K P size g = (
+  (λ n. ((λ i s. over-so K P size g n i (at-stopped K P size g n s)), (λ h. least K P size g n (λ e. h (stopped-at K P size g n e))), is-decided K P size g n)),
+  unique K P size g,
+)
 
 pub stays : Stays
 stays K P size g n m c d h =
     let e = closes-so K P size g n c d in
     let k : rewrite K size own-fetch (n + m) (start P) (situation K P size g) ≡ later K size own-fetch m (rewrite K size own-fetch n (start P) (situation K P size g)) =
-        goes-on K size own-fetch n m (start P) (situation K P size g) (λ q. h (ap (λ (x : Closing). x .ending) e ∙ q)) in
+    goes-on K size own-fetch n m (start P) (situation K P size g) (λ q. h (ap (λ (x : Closing). x .ending) e ∙ q)) in
     let l = rewrite K size own-fetch n (start P) (situation K P size g) .left in
     let q : n + m - (l + m) ≡ n - l = omega arith in
     closes-by K P size g (n + m) c (ap (closing-from K P size g (n + m)) k ∙ (ap (λ (i : ℕ). record { ending = closing K P size g n .ending; count = i; globals = closing K P size g n .globals }) q ∙ sym e))

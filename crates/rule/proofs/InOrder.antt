@@ -370,14 +370,15 @@ pub fine-told : (ls : List Line) (t : Statement) → past-globals ls ≤ 2049 �
     → Fine (start-kinds (globals-of ls .names) first-fresh) (statement-apart (globals-of ls .scope) t)
 fine-told ls t few scoped once placed =
     fine-apart t (g .scope) (start-kinds (g .names) first-fresh) (start-fits (past-globals ls) g i few) scoped once
-        (each-map (λ l. (past-globals ls ≤ l) × (l < 2049)) (Line-free (start-kinds (g .names) first-fresh)) (start-free (past-globals ls) g i few) (declaring-lines t) placed)
+    (each-map (λ l. (past-globals ls ≤ l) × (l < 2049)) (Line-free (start-kinds (g .names) first-fresh)) (start-free (past-globals ls) g i few) (declaring-lines t) placed)
   where
     g : Globals
     g = globals-of ls
+
     i : Before (past-globals ls) g
     i = let e : 1 + length (heads ls) ≡ past-globals ls = omega arith in subst (λ k. Before k g) e (globals-kept 1 (heads ls) no-globals (record { simples = tt; arrays = tt; procs = tt; rest = λ l h. (refl, refl, refl) }))
 
 pub told-agrees : Told-agrees
 told-agrees K size fetch ls t few scoped once placed n level used σ =
     machine-agrees K size fetch (record { names = globals-of ls .names; fresh = first-fresh; store = σ })
-        (statement-apart (globals-of ls .scope) t) (fine-told ls t few scoped once placed) n level used
+    (statement-apart (globals-of ls .scope) t) (fine-told ls t few scoped once placed) n level used

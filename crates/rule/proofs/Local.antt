@@ -224,7 +224,7 @@ module _ (taken : ℕ) (ps : List Item) where
     enters-both (closure x y body ρ) l level used σ τ w c b h e o =
         deeper-both size l level used 1 _ _
         (both-move _ (set σ used w) (set τ used w) (used + 1) refl refl (rw add-one (even-more used σ τ w e))
-            (le-refl (used + 1), (omega arith, (omega arith, bounded-more used (used + 1) (omega arith) ρ b)), orderly-more taken used (used + 1) (omega arith) ps o))
+        (le-refl (used + 1), (omega arith, (omega arith, bounded-more used (used + 1) (omega arith) ρ b)), orderly-more taken used (used + 1) (omega arith) ps o))
 
     sits : (used : ℕ) (ρ : Env) → Bounded ρ used → Orderly taken used ps → (z : ℕ) → Sits used (standing G ρ z)
     sits used ρ b o = standing-sits G used (λ z. sits-more taken used (orderly-least taken used ps o) (G z) (globals z)) ρ b
@@ -246,16 +246,16 @@ module _ (taken : ℕ) (ps : List Item) where
     moves-both (call l q x p) level used ρ σ τ b e o =
         tried-both l _ _ (same-value K (standing G ρ) used (sits used ρ b o) (own-fetch σ) (own-fetch τ) (fetches used σ τ e) x) _ _
         (λ w. tried-cell used l _ _ (same-cell K (standing G ρ) used (sits used ρ b o) (own-fetch σ) (own-fetch τ) (fetches used σ τ e) p)
-            (place-below K (standing G ρ) used (sits used ρ b o) (own-fetch σ) p) _ _
+        (place-below K (standing G ρ) used (sits used ρ b o) (own-fetch σ) p) _ _
         (λ c h. enters-both (procedure-at ρ q) l level used σ τ w c (found-closed used ρ b q) h e o))
     moves-both (new-simple l x s) level used ρ σ τ b e o =
         deeper-both size l level used 1 _ _
         (both-move _ (set σ used (K .zero)) (set τ used (K .zero)) (used + 1) refl refl (rw add-one (even-more used σ τ (K .zero) e))
-            (le-refl (used + 1), (omega arith, bounded-more used (used + 1) (omega arith) ρ b), orderly-more taken used (used + 1) (omega arith) ps o))
+        (le-refl (used + 1), (omega arith, bounded-more used (used + 1) (omega arith) ρ b), orderly-more taken used (used + 1) (omega arith) ps o))
     moves-both (new-array l a n s) level used ρ σ τ b e o =
         deeper-both size l level used n _ _
         (both-move _ (cleared n used (K .zero) σ) (cleared n used (K .zero) τ) (used + n) refl refl (even-cleared n used σ τ (K .zero) e)
-            (le-refl (used + n), (le-refl (used + n), bounded-more used (used + n) (omega arith) ρ b), orderly-more taken used (used + n) (omega arith) ps o))
+        (le-refl (used + n), (le-refl (used + n), bounded-more used (used + n) (omega arith) ρ b), orderly-more taken used (used + n) (omega arith) ps o))
     moves-both (system l d s) level used ρ σ τ b e o =
         deeper-both size l level used 0 _ _ (both-move _ σ τ used refl refl e (le-refl used, b, o))
 
@@ -272,11 +272,11 @@ module _ (K : Arithmetic) (size : ℕ) (G : Names) (taken : ℕ) (globals : (z :
   locally (suc n) u (p ∷ ps) σ τ o e =
       rw (runs-on K size own-fetch G n p ps σ, runs-on K size own-fetch G n p ps τ)
       (go _ _ (moves-both taken ps K size G globals (p .text) (p .level) (p .used) (p .env) σ τ (o .1) (even-less u (p .used) σ τ (o .0) e) (o .2))
-          (λ qs v σ′ τ′. locally n v (qs ++ ps) σ′ τ′))
+      (λ qs v σ′ τ′. locally n v (qs ++ ps) σ′ τ′))
     where
       go : (a b : Moved) → Together taken ps a b
           → ((qs : List Item) (v : ℕ) (σ′ τ′ : List ℕ) → Orderly taken v (qs ++ ps) → Even v σ′ τ′
-              → Same-halt taken (machine K size own-fetch G n (qs ++ ps) σ′) (machine K size own-fetch G n (qs ++ ps) τ′))
+          → Same-halt taken (machine K size own-fetch G n (qs ++ ps) σ′) (machine K size own-fetch G n (qs ++ ps) τ′))
           → Same-halt taken (onward K size own-fetch G n ps σ a) (onward K size own-fetch G n ps τ b)
       go a b (both-refuse f l ea eb) ih = rw (ea, eb) (ends-so u (fault f l) n σ τ (orderly-least taken u (p ∷ ps) o) e)
       go a b (both-move qs σ′ τ′ v ea eb k w) ih = rw (ea, eb) (ih qs v σ′ τ′ w k)
