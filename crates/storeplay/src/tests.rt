@@ -67,8 +67,9 @@ fn images(rt: LibcRuntime) -> Result<(), Fail> {
     ] {
         let mut bytes = vec![in rt.alloc(); 7u8; length]?;
         check_store(&mut ByteImage::new(bytes.as_mut_slice()), size)?;
-        if length > 4 * size {
-            check_eq(bytes.get(4 * size).copied(), Some(7))?;
+        let used = size.saturating_mul(4);
+        if length > used {
+            check_eq(bytes.get(used).copied(), Some(7))?;
         }
     }
     Ok(())
