@@ -1,0 +1,5 @@
+pub mod Sheet
+pub mod Classes
+pub mod Naming
+pub mod Depths
+pub mod Scopes
