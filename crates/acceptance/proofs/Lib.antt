@@ -6,3 +6,4 @@ pub mod Depths
 pub mod Around
 pub mod Listed
 pub mod Known
+mod Stages

@@ -3,3 +3,4 @@ pub mod Classes
 pub mod Naming
 pub mod Depths
 pub mod Scopes
+pub mod Verdict

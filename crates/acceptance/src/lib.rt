@@ -1,5 +1,5 @@
 // Whether the lines of a sheet are a script together: the checks of the whole sheet.
-pub mod checks;
+mod checks;
 mod classes;
 mod constants;
 mod depth;
@@ -8,3 +8,4 @@ mod lowest;
 mod names;
 mod scopes;
 mod sheet;
+pub mod verdict;

@@ -8,7 +8,7 @@ use text::cutting::cut;
 #[derive(Drop)]
 pub struct Case {
     pub sheet: Vec<u8>,
-    pub refusal: Option<(u8, u16)>,
+    pub refusal: Option<(u8, usize)>,
 }
 
 // The number after a word, as in `sheet 25`.
@@ -21,14 +21,14 @@ fn count_after(line: &[u8], word: &str) -> Option<u16> {
 }
 
 // The number and the line of a refusal, as in `r,6,4,0`.
-fn refusal_of(line: &[u8]) -> Option<(u8, u16)> {
+fn refusal_of(line: &[u8]) -> Option<(u8, usize)> {
     let Ok(text) = from_utf8(line) else {
         return None;
     };
     let rest = text.strip_prefix("r,")?;
     let (number, rest) = rest.split_once(',')?;
     let (line, _) = rest.split_once(',')?;
-    Some((number.parse::<u8>().ok()?, line.parse::<u16>().ok()?))
+    Some((number.parse::<u8>().ok()?, line.parse::<usize>().ok()?))
 }
 
 // The next case, and the text after it; nothing where the text has no more.
@@ -63,7 +63,7 @@ fn take_sheet<'a>(sheet: &mut Vec<u8>, text: &'a [u8]) -> Result<Option<&'a [u8]
 }
 
 // The refusal that the lines after `want N` tell, if any, and the text after them.
-fn take_wanted<'a>(text: &'a [u8]) -> Option<(Option<(u8, u16)>, &'a [u8])> {
+fn take_wanted<'a>(text: &'a [u8]) -> Option<(Option<(u8, usize)>, &'a [u8])> {
     let (head, mut rest) = cut(text, b'\n')?;
     let count = count_after(head, "want ")?;
     let mut refusal = None;

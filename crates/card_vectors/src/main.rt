@@ -1,8 +1,10 @@
-// Holds the reader to sheets made elsewhere: says how many are read or refused as they should be.
+// Holds reading and acceptance to sheets made elsewhere: says how many are accepted or refused as they should be.
 mod cases;
 
-use cases::Case;
+use acceptance::verdict::accept;
 use cases::next_case;
+use kinds::Whole;
+use kinds::WholeKind;
 use lines::records::Line;
 use lines::records::Record;
 use sheet::reader::MOST_LINES;
@@ -18,19 +20,15 @@ const BLANK: Record = Record {
 // More cases than the file has.
 const MOST_CASES: u32 = 100000;
 
-// The number and the line of the reader's refusal, or nothing.
-fn refusal(sheet: &[u8], records: &mut [Record]) -> Option<(u8, u16)> {
-    match read_lines(sheet, records) {
-        Ok(_) => None,
+// The number and the line of the refusal, or nothing where the sheet is a script for whole numbers.
+fn refusal(sheet: &[u8], records: &mut [Record]) -> Option<(u8, usize)> {
+    let count = match read_lines(sheet, records) {
+        Ok(count) => count,
+        Err(refusal) => return Some((refusal.cause.number(), refusal.line as usize)),
+    };
+    match accept::<Whole>(&records[0..count]) {
+        Ok(()) => None,
         Err(refusal) => Some((refusal.cause.number(), refusal.line)),
-    }
-}
-
-// What the reader is to answer: the refusals from 6 on are found after reading.
-fn wanted(case: &Case) -> Option<(u8, u16)> {
-    match case.refusal {
-        Some((number, line)) if number <= 5 => Some((number, line)),
-        _ => None,
     }
 }
 
@@ -38,7 +36,7 @@ fn run(rt: &LibcRuntime) -> Result<(), AnyError> {
     let text = fs::read(rt, "runs.txt")?;
     let mut records = vec![in rt.alloc(); BLANK; MOST_LINES]?;
     let mut rest = text.as_slice();
-    let mut read = 0u32;
+    let mut accepted = 0u32;
     let mut refused = 0u32;
     let mut wrong = 0u32;
     for _ in 0..MOST_CASES {
@@ -46,16 +44,19 @@ fn run(rt: &LibcRuntime) -> Result<(), AnyError> {
             break;
         };
         let answer = refusal(&case.sheet, &mut records);
-        if answer != wanted(&case) {
+        if answer != case.refusal {
             wrong = wrong.saturating_add(1);
         } else if answer.is_some() {
             refused = refused.saturating_add(1);
         } else {
-            read = read.saturating_add(1);
+            accepted = accepted.saturating_add(1);
         }
         rest = after;
     }
-    println!(rt, "read: {read}, refused: {refused}, wrong: {wrong}")?;
+    println!(
+        rt,
+        "accepted: {accepted}, refused: {refused}, wrong: {wrong}"
+    )?;
     println!(rt, "bytes left: {}", rest.len())?;
     Ok(())
 }

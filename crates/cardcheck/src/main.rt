@@ -1,9 +1,14 @@
 // Reads a sheet from standard input and tells what the card holds, or why it is refused.
-mod kinds;
+mod words;
 
+use acceptance::verdict::accept;
 use account::kinds_of_line::count_kind;
 use account::printable::printable_part;
-use kinds::KINDS;
+use kinds::NumberKind;
+use kinds::Single;
+use kinds::SingleKind;
+use kinds::Whole;
+use kinds::WholeKind;
 use lines::records::Line;
 use lines::records::Record;
 use lines::refusals::Refusal;
@@ -14,6 +19,7 @@ use std::error::AnyError;
 use std::io::Read;
 use std::str;
 use text::lines::line_text;
+use words::KINDS;
 
 // The card's bytes: one past the most that a sheet may have is enough to refuse it.
 fn read_card(rt: &LibcRuntime) -> Result<Vec<u8>, AnyError> {
@@ -47,21 +53,57 @@ fn tell_global(rt: &LibcRuntime, name: u8, length: u16) -> Result<(), AnyError> 
     Ok(())
 }
 
-fn tell_refusal(rt: &LibcRuntime, text: &[u8], refusal: Refusal) -> Result<(), AnyError> {
-    println!(
-        rt,
-        "refused: {} at line {}: {}",
-        refusal.cause.number(),
-        refusal.line,
-        refusal.cause.meaning()
-    )?;
-    let Some(line) = line_text(text, refusal.line as usize) else {
+// The text of a line, as far as it can be printed.
+fn tell_line(rt: &LibcRuntime, text: &[u8], number: usize) -> Result<(), AnyError> {
+    let Some(line) = line_text(text, number) else {
         return Ok(());
     };
     if let Ok(words) = str::from_utf8(printable_part(line)) {
-        println!(rt, "line {}: {words}", refusal.line)?;
+        println!(rt, "line {number}: {words}")?;
     }
     Ok(())
+}
+
+fn tell_refusal(rt: &LibcRuntime, text: &[u8], refusal: Refusal) -> Result<(), AnyError> {
+    let number = refusal.cause.number();
+    println!(
+        rt,
+        "refused: {number} at line {}: {}",
+        refusal.line,
+        refusal.cause.meaning()
+    )?;
+    tell_line(rt, text, refusal.line as usize)
+}
+
+// Whether the lines are a script for a number kind, which is named in words.
+fn tell_acceptance<K: NumberKind>(
+    rt: &LibcRuntime,
+    text: &[u8],
+    records: &[Record],
+    kind: &str,
+) -> Result<(), AnyError> {
+    match accept::<K>(records) {
+        Ok(()) => {
+            println!(rt, "accepted for {kind}")?;
+            Ok(())
+        }
+        Err(refusal) => {
+            let number = refusal.cause.number();
+            println!(
+                rt,
+                "refused for {kind}: {number} at line {}: {}",
+                refusal.line,
+                refusal.cause.meaning()
+            )?;
+            tell_line(rt, text, refusal.line)
+        }
+    }
+}
+
+fn tell_sheet(rt: &LibcRuntime, text: &[u8], records: &[Record]) -> Result<(), AnyError> {
+    tell_lines(rt, records)?;
+    tell_acceptance::<Whole>(rt, text, records, "whole numbers")?;
+    tell_acceptance::<Single>(rt, text, records, "singles")
 }
 
 fn run(rt: &LibcRuntime) -> Result<(), AnyError> {
@@ -72,7 +114,7 @@ fn run(rt: &LibcRuntime) -> Result<(), AnyError> {
     };
     let mut records = vec![in rt.alloc(); blank; MOST_LINES]?;
     match read_lines(&card, &mut records) {
-        Ok(count) => tell_lines(rt, &records[0..count]),
+        Ok(count) => tell_sheet(rt, &card, &records[0..count]),
         Err(refusal) => tell_refusal(rt, &card, refusal),
     }
 }
