@@ -17,7 +17,7 @@ use sheet::reader::MOST_LINES;
 use sheet::reader::read_lines;
 use std::error::AnyError;
 use std::io::Read;
-use std::str;
+use std::str::from_utf8;
 use text::lines::line_text;
 use words::KINDS;
 
@@ -58,7 +58,7 @@ fn tell_line(rt: &LibcRuntime, text: &[u8], number: usize) -> Result<(), AnyErro
     let Some(line) = line_text(text, number) else {
         return Ok(());
     };
-    if let Ok(words) = str::from_utf8(printable_part(line)) {
+    if let Ok(words) = from_utf8(printable_part(line)) {
         println!(rt, "line {number}: {words}")?;
     }
     Ok(())
