@@ -1,4 +1,5 @@
 // Whether the lines of a sheet are a script together: the checks of the whole sheet.
+#![tactic(auto)]
 mod checks;
 mod classes;
 mod constants;

@@ -1,4 +1,5 @@
 // Reads a sheet from standard input and tells what the card holds, or why it is refused.
+#![tactic(auto)]
 mod words;
 
 use acceptance::verdict::accept;

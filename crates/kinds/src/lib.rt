@@ -1,4 +1,6 @@
 // Number kinds: what 32-bit words stand for, and what arithmetic does with them.
+#![tactic(auto)]
+
 mod fault;
 mod kind;
 mod single;

@@ -1,2 +1,3 @@
 // The published cases, each computed from the definitions by the check.
+#![tactic(auto)]
 pub mod table;

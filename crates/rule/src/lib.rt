@@ -1,2 +1,3 @@
 // The copy rule, and the laws that hold of it.
+#![tactic(auto)]
 pub mod laws;

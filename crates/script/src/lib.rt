@@ -1,2 +1,3 @@
 // The text of a script: what its lines mean together, and which sheets are scripts.
+#![tactic(auto)]
 pub mod laws;

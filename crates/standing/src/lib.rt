@@ -1,2 +1,3 @@
 // When the records of a sheet stand for its text.
+#![tactic(auto)]
 pub mod laws;

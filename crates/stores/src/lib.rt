@@ -1,4 +1,6 @@
 // Stores of words: what a store is, a table of words, and an image in bytes.
+#![tactic(auto)]
+
 mod access;
 mod byte_image;
 mod store;

@@ -1,4 +1,5 @@
 // Holds both number kinds to cases made elsewhere: says how many of each operation agree.
+#![tactic(auto)]
 mod answer;
 mod case;
 

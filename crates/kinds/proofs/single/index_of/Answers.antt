@@ -7,9 +7,9 @@ use Rattle.kinds.proofs.single.index_of.Goals.{else-n-lt-INDEX-LIMIT-via-then-n-
 
 pub returns-then-n-x : goal.returns-then-n-x
 returns-then-n-x c =
-    let p = whole_is c.args.x c.saturating-f32-to-u32-n.result c.saturating-f32-to-u32-n.ensures in
+    let p = whole_is c.args.x c.saturating_f32_to_u32-n.result c.saturating_f32_to_u32-n.ensures in
     let t = c.if-n-x.true in
-    let l = lt-ltb c.saturating-f32-to-u32-n.result 16777216 c.if-n-lt-INDEX-LIMIT.true in
+    let l = lt-ltb c.saturating_f32_to_u32-n.result 16777216 c.if-n-lt-INDEX_LIMIT.true in
     grind (arith, nat_tests)
 
 pub returns-else-n-lt-INDEX-LIMIT : goal.returns-else-n-lt-INDEX-LIMIT

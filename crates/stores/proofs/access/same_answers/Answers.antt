@@ -11,9 +11,9 @@ loop-request-preserved g c =
     let inv = c.loop-request.invariant in
     let requests = c.args.requests.now in
     let i = c.loop-request.request-index in
-    let e = c.answer-from-first.ensures in
-    let f = c.answer-from-second.ensures in (
-      same_more _ _ _ _ requests i Size _ _ _ _ (omega arith) inv.1 inv.4 e.reply f.reply inv.0 c.is-same-same.ensures,
+    let e = c.answer-from_first.ensures in
+    let f = c.answer-from_second.ensures in (
+      same_more _ _ _ _ requests i Size _ _ _ _ (omega arith) inv.1 inv.4 e.reply f.reply inv.0 c.is_same-same.ensures,
       stands_more _ _ _ requests i Size (omega arith) inv.1 e.words,
       e.loan ∙ inv.2,
       e.rest ∙ inv.3,
@@ -33,10 +33,10 @@ returns g c =
     record {
       alike = λ e. told.1 (ap (λ ws. replies ws c.args.requests.now) e);
       told = told;
-      first-words = inv.1 ∙ ap (after_all ours) all;
-      first-loan = inv.2;
+      first_words = inv.1 ∙ ap (after_all ours) all;
+      first_loan = inv.2;
       first_rest = inv.3;
-      second-words = inv.4 ∙ ap (after_all theirs) all;
-      second-loan = inv.5;
-      second-rest = inv.6;
+      second_words = inv.4 ∙ ap (after_all theirs) all;
+      second_loan = inv.5;
+      second_rest = inv.6;
     }

@@ -8,7 +8,7 @@ read-word-requires c = cell_within c.args.bytes.now c.args.at (omega arith)
 
 pub returns-then-at-size : goal.returns-then-at-size
 returns-then-at-size c =
-    ap Some c.read-word.ensures ∙ image_load c.args.bytes.now c.args.at (omega arith)
+    ap Some c.read_word.ensures ∙ image_load c.args.bytes.now c.args.at (omega arith)
 
 pub returns-else-at-size : goal.returns-else-at-size
 returns-else-at-size c = sym (slice_get_past _ c.args.at (omega arith))

@@ -12,9 +12,9 @@ returns-then-at-size c =
     let bytes = c.args.bytes.now in
     record {
       answer = omega arith;
-      words = ap image_words c.write-word.ensures ∙ image_put bytes c.args.at c.args.word (omega arith) (omega arith);
-      rest = ap image_rest c.write-word.ensures ∙ image_kept bytes c.args.at c.args.word (omega arith) (omega arith);
-      bytes = c.write-word.ensures;
+      words = ap image_words c.write_word.ensures ∙ image_put bytes c.args.at c.args.word (omega arith) (omega arith);
+      rest = ap image_rest c.write_word.ensures ∙ image_kept bytes c.args.at c.args.word (omega arith) (omega arith);
+      bytes = c.write_word.ensures;
     }
 
 pub returns-else-at-size : goal.returns-else-at-size
