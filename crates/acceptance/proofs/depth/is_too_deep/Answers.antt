@@ -10,12 +10,12 @@ returns-in-Some c =
     let P = part (line (lines_of c.args.records.now)) c.args.n in
     c.is_over.ensures ∙ sym (over_is P ∙ ap (λ o. either_over o (counted (as_condition_deep P))) (sym c.in-Some.ensures))
 
-pub returns-in-Some-condition-depth : goal.returns-in-Some-condition-depth
-returns-in-Some-condition-depth c =
+pub returns-in-Some-condition_depth : goal.returns-in-Some-condition_depth
+returns-in-Some-condition_depth c =
     let P = part (line (lines_of c.args.records.now)) c.args.n in
-    c.is-over-in-Some-condition-depth.ensures ∙ sym (over_is P ∙ ap₂ either_over (sym c.in-None.ensures) (sym c.in-Some-condition-depth.ensures))
+    c.is_over-in-Some-condition_depth.ensures ∙ sym (over_is P ∙ ap₂ either_over (sym c.in-None.ensures) (sym c.in-Some-condition_depth.ensures))
 
-pub returns-in-None-condition-depth : goal.returns-in-None-condition-depth
-returns-in-None-condition-depth c =
+pub returns-in-None-condition_depth : goal.returns-in-None-condition_depth
+returns-in-None-condition_depth c =
     let P = part (line (lines_of c.args.records.now)) c.args.n in
-    sym (over_is P ∙ ap₂ either_over (sym c.in-None.ensures) (sym c.in-None-condition-depth.ensures))
+    sym (over_is P ∙ ap₂ either_over (sym c.in-None.ensures) (sym c.in-None-condition_depth.ensures))

@@ -11,4 +11,4 @@ pub returns : goal.returns
 returns c =
     let ls = lines_of c.args.records.now in
     let e : length c.args.records.now + 1 ≡ suc (length ls) = omega (arith, length-map c.args.records.now (λ r. r.line)) in
-    ap not c.is-named-below.ensures ∙ (ap (λ k. not (stands c.args.m (named (line ls) k))) e ∙ none_named c.args.m (named (line ls) (suc (length ls))))
+    ap not c.is_named_below.ensures ∙ (ap (λ k. not (stands c.args.m (named (line ls) k))) e ∙ none_named c.args.m (named (line ls) (suc (length ls))))

@@ -1,4 +1,4 @@
 use Rattle.acceptance.proofs.names.+is_taken.Given as goal
 
-abbrev pub decreases-is-taken : goal.decreases-is-taken
-decreases-is-taken l = l.a
+abbrev pub decreases-is_taken : goal.decreases-is_taken
+decreases-is_taken l = l.a

@@ -12,15 +12,15 @@ loop-k-init c =
     let e : length c.args.records.now + 1 ≡ suc (length ls) = omega (arith, length-map c.args.records.now (λ r. r.line)) in
     ap (λ k. user (line ls) k c.args.m) e
 
-pub returns-then-names-line : goal.returns-then-names-line
-returns-then-names-line c =
+pub returns-then-names_line : goal.returns-then-names_line
+returns-then-names_line c =
     let L = line (lines_of c.args.records.now) in
-    sym (user_here L c.args.m c.loop-k.k (c.loop-k.k - 1) (omega arith) (sym c.if-names-line.ensures)) ∙ c.loop-k.invariant
+    sym (user_here L c.args.m c.loop-k.k (c.loop-k.k - 1) (omega arith) (sym c.if-names_line.ensures)) ∙ c.loop-k.invariant
 
 pub loop-k-preserved : goal.loop-k-preserved
 loop-k-preserved c =
     let L = line (lines_of c.args.records.now) in
-    sym (user_before L c.args.m c.loop-k.k (c.loop-k.k - 1) (omega arith) (sym c.if-names-line.ensures)) ∙ c.loop-k.invariant
+    sym (user_before L c.args.m c.loop-k.k (c.loop-k.k - 1) (omega arith) (sym c.if-names_line.ensures)) ∙ c.loop-k.invariant
 
 pub returns : goal.returns
 returns c =

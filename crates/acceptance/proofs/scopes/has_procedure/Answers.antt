@@ -5,4 +5,4 @@ use Rattle.acceptance.proofs.Listed.{all_listed}
 use Rattle.acceptance.proofs.scopes.has_procedure.Goals as goal
 
 pub returns : goal.returns
-returns c = c.is-taken.ensures ∙ all_listed (line (lines_of c.args.records.now)) c.args.declarations c.args.name
+returns c = c.is_taken.ensures ∙ all_listed (line (lines_of c.args.records.now)) c.args.declarations c.args.name

@@ -16,9 +16,9 @@ returns-then-declared-name c =
     let e = global_turn c.args.sought c.args.name c.args.records.now c.loop-record.record-index blank c.in-Global.declared c.in-Global.length c.loop-record-test.true c.in-Global.is in
     search rules
 
-pub returns-in-default : goal.returns-in-default
-returns-in-default c =
-    sym (global_stop c.args.sought c.args.name c.args.records.now c.loop-record.record-index blank c.loop-record-test.true c.in-default.not-Global) ∙ c.loop-record.invariant
+pub returns-in_default : goal.returns-in_default
+returns-in_default c =
+    sym (global_stop c.args.sought c.args.name c.args.records.now c.loop-record.record-index blank c.loop-record-test.true c.in_default.not-Global) ∙ c.loop-record.invariant
 
 pub loop-record-preserved : goal.loop-record-preserved
 loop-record-preserved c =

@@ -4,7 +4,7 @@ use Rattle.std.proofs.lemmas.Int.{to_z-of_z}
 use Rattle.kinds.specs.Singles.{constant_finite, finite_number}
 use Rattle.kinds.proofs.single.exact_word.Goals as goal
 
-pub float-to-bits-result : goal.float-to-bits-result
-float-to-bits-result c =
+pub float_to_bits-result : goal.float_to_bits-result
+float_to_bits-result c =
     subst (λ (z : ℤ). T (not (is_nan (of_int binary32 z)))) (sym (to_z-of_z w32 c.args.n c.ranges.n))
     (finite_number (of_int binary32 c.args.n) (constant_finite c.args.n c.requires))

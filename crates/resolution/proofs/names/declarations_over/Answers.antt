@@ -8,10 +8,10 @@ use Rattle.resolution.proofs.names.declarations_over.Goals as goal
 pub returns-in-System : goal.returns-in-System
 returns-in-System c =
     let ls = lines_of c.args.records.now in
-    sym (fellows_are ls c.args.n ∙ (ap (λ s. procedures_in ls (naming (line ls s))) (sym c.system-over.ensures.is) ∙ ap (λ l. procedures_in ls (naming l)) (sym c.in-System.ensures)))
+    sym (fellows_are ls c.args.n ∙ (ap (λ s. procedures_in ls (naming (line ls s))) (sym c.system_over.ensures.is) ∙ ap (λ l. procedures_in ls (naming l)) (sym c.in-System.ensures)))
 
-pub returns-in-default : goal.returns-in-default
-returns-in-default c =
+pub returns-in_default : goal.returns-in_default
+returns-in_default c =
     let ls = lines_of c.args.records.now in
-    sym (fellows_are ls c.args.n ∙ (ap (λ s. procedures_in ls (naming (line ls s))) (sym c.system-over.ensures.is)
-    ∙ (ap (λ l. procedures_in ls (naming l)) (sym c.line-at.ensures) ∙ no_procedures_in ls c.line-at.result c.in-default.not-System)))
+    sym (fellows_are ls c.args.n ∙ (ap (λ s. procedures_in ls (naming (line ls s))) (sym c.system_over.ensures.is)
+    ∙ (ap (λ l. procedures_in ls (naming l)) (sym c.line_at.ensures) ∙ no_procedures_in ls c.line_at.result c.in_default.not-System)))

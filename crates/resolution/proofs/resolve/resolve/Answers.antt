@@ -14,9 +14,9 @@ loop-i-init c = (refl, λ n p q. absurd (omega arith))
 
 pub loop-i-preserved : goal.loop-i-preserved
 loop-i-preserved c = (
-  lines_stay c.loop-i.records c.loop-i.i blank c.declaration-at-declaration.result ∙ c.loop-i.invariant.0,
-  told_more c.loop-i.records (lines_of c.args.records.now) c.loop-i.i blank c.declaration-at-declaration.result (omega (arith, c.loop-i.auto.records, c.loop-i-test.true))
-      (c.declaration-at-declaration.ensures ∙ ap (λ ls. declaration_at ls (c.loop-i.i + 1)) c.loop-i.invariant.0) c.loop-i.invariant.1,
+  lines_stay c.loop-i.records c.loop-i.i blank c.declaration_at-declaration.result ∙ c.loop-i.invariant.0,
+  told_more c.loop-i.records (lines_of c.args.records.now) c.loop-i.i blank c.declaration_at-declaration.result (omega (arith, c.loop-i.auto.records, c.loop-i-test.true))
+      (c.declaration_at-declaration.ensures ∙ ap (λ ls. declaration_at ls (c.loop-i.i + 1)) c.loop-i.invariant.0) c.loop-i.invariant.1,
 )
 
 pub returns : goal.returns

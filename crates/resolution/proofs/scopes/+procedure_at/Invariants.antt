@@ -1,4 +1,4 @@
 use Rattle.resolution.proofs.scopes.+procedure_at.Given as goal
 
-abbrev pub decreases-procedure-at : goal.decreases-procedure-at
-decreases-procedure-at l = l.d
+abbrev pub decreases-procedure_at : goal.decreases-procedure_at
+decreases-procedure_at l = l.d

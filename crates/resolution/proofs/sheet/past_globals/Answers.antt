@@ -8,14 +8,14 @@ use Rattle.resolution.proofs.sheet.past_globals.Goals as goal
 abbrev blank : Record
 blank = record { line = Global 0 0; declaration = None }
 
-pub returns-then-not-is-nothing : goal.returns-then-not-is-nothing
-returns-then-not-is-nothing c =
-    let e = left_end c.args.records.now c.loop-i.i blank c.loop-i-test.true (sym (ap is_nothing c.class-of.ensures) ∙ sym c.if-not-is-nothing.ensures) in
+pub returns-then-not-is_nothing : goal.returns-then-not-is_nothing
+returns-then-not-is_nothing c =
+    let e = left_end c.args.records.now c.loop-i.i blank c.loop-i-test.true (sym (ap is_nothing c.class_of.ensures) ∙ sym c.if-not-is_nothing.ensures) in
     omega (arith, e, c.loop-i.invariant)
 
 pub loop-i-preserved : goal.loop-i-preserved
 loop-i-preserved c =
-    let e = left_further c.args.records.now c.loop-i.i blank c.loop-i-test.true (sym (ap is_nothing c.class-of.ensures) ∙ sym c.if-not-is-nothing.ensures) in
+    let e = left_further c.args.records.now c.loop-i.i blank c.loop-i-test.true (sym (ap is_nothing c.class_of.ensures) ∙ sym c.if-not-is_nothing.ensures) in
     omega (arith, e, c.loop-i.invariant)
 
 pub returns : goal.returns

@@ -6,17 +6,17 @@ use Rattle.sheet.proofs.reader.fill.Goals as goal
 pub loop-rest-init : goal.loop-rest-init
 loop-rest-init c = ([], started c.args.text.now c.args.records.now)
 
-pub returns-then-count-ge-MOST-LINES : goal.returns-then-count-ge-MOST-LINES
-returns-then-count-ge-MOST-LINES c =
+pub returns-then-count-ge-MOST_LINES : goal.returns-then-count-ge-MOST_LINES
+returns-then-count-ge-MOST_LINES c =
     let i = c.loop-rest.invariant in
-    let f = lines_full (length c.args.records.now) (c.loop-rest.count + 1) (rows c.loop-rest.rest.now) (rows_some _ c.loop-rest-test.true) (⊎_elim (λ p. inl (omega arith)) (λ p. inr (omega arith)) c.then-count-ge-MOST-LINES.either) in
+    let f = lines_full (length c.args.records.now) (c.loop-rest.count + 1) (rows c.loop-rest.rest.now) (rows_some _ c.loop-rest-test.true) (⊎_elim (λ p. inl (omega arith)) (λ p. inr (omega arith)) c.then-count-ge-MOST_LINES.either) in
     let e = stopped _ _ _ _ _ _ _ _ i.1 f in
     record { answer = e.0; bound = tt; left = e.1 }
 
-pub returns-in-default : goal.returns-in-default
-returns-in-default c =
+pub returns-in_default : goal.returns-in_default
+returns-in_default c =
     let i = c.loop-rest.invariant in
-    let f = lines_unclosed (length c.args.records.now) (c.loop-rest.count + 1) c.loop-rest.rest.now (omega arith) (omega arith) c.loop-rest-test.true c.in-default.ensures in
+    let f = lines_unclosed (length c.args.records.now) (c.loop-rest.count + 1) c.loop-rest.rest.now (omega arith) (omega arith) c.loop-rest-test.true c.in_default.ensures in
     let e = stopped _ _ _ _ _ _ _ _ i.1 f in
     record { answer = e.0; bound = tt; left = e.1 }
 

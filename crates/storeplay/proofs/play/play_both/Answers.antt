@@ -10,5 +10,5 @@ returns c =
     record {
       alike = search rules;
       cells = whole_table _ c.args.cells.now (after_all (table_words c.args.cells.now) c.args.requests.now) (search rules) (search rules);
-      bytes = whole_image _ c.args.bytes.now (after_all (image_words c.args.bytes.now) c.args.requests.now) (λ k. let t = c.type-inv.bytes k in omega arith) (search rules) (search rules);
+      bytes = whole_image _ c.args.bytes.now (after_all (image_words c.args.bytes.now) c.args.requests.now) (λ k. let t = c.type_inv.bytes k in omega arith) (search rules) (search rules);
     }

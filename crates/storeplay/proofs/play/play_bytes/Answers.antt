@@ -9,5 +9,5 @@ returns c =
     record {
       count = c.serve.ensures.count;
       replies = search rules;
-      bytes = whole_image _ c.args.bytes.now (after_all (image_words c.args.bytes.now) (take c.serve.result c.args.requests.now)) (λ k. let t = c.type-inv.bytes k in omega arith) (search rules) (search rules);
+      bytes = whole_image _ c.args.bytes.now (after_all (image_words c.args.bytes.now) (take c.serve.result c.args.requests.now)) (λ k. let t = c.type_inv.bytes k in omega arith) (search rules) (search rules);
     }

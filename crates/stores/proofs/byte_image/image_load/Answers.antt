@@ -3,8 +3,8 @@ use Rattle.std.proofs.lemmas.Option.{slice_get_past}
 use Rattle.stores.proofs.Imaging.{cell_within, image_load}
 use Rattle.stores.proofs.byte_image.image_load.Goals as goal
 
-pub read-word-requires : goal.read-word-requires
-read-word-requires c = cell_within c.args.bytes.now c.args.at (omega arith)
+pub read_word-requires : goal.read_word-requires
+read_word-requires c = cell_within c.args.bytes.now c.args.at (omega arith)
 
 pub returns-then-at-size : goal.returns-then-at-size
 returns-then-at-size c =

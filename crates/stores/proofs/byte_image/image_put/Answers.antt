@@ -4,8 +4,8 @@ use Rattle.stores.specs.Images.{image_words, image_rest}
 use Rattle.stores.proofs.Imaging.{cell_within, image_put, image_kept}
 use Rattle.stores.proofs.byte_image.image_put.Goals as goal
 
-pub write-word-requires : goal.write-word-requires
-write-word-requires c = cell_within c.args.bytes.now c.args.at (omega arith)
+pub write_word-requires : goal.write_word-requires
+write_word-requires c = cell_within c.args.bytes.now c.args.at (omega arith)
 
 pub returns-then-at-size : goal.returns-then-at-size
 returns-then-at-size c =

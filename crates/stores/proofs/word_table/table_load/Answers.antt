@@ -12,5 +12,5 @@ returns-then-at-size c = load_within 65536 c.args.at c.args.cells.now (omega ari
 pub returns-else-at-size : goal.returns-else-at-size
 returns-else-at-size c = sym (slice_get_past _ c.args.at (omega arith))
 
-pub offset-bounds-cells-at : goal.offset-bounds-cells-at
-offset-bounds-cells-at c = let k = within 65536 c.args.at c.args.cells.now (omega arith) in omega arith
+pub offset_bounds-cells-at : goal.offset_bounds-cells-at
+offset_bounds-cells-at c = let k = within 65536 c.args.at c.args.cells.now (omega arith) in omega arith

@@ -25,5 +25,5 @@ returns-else-at-size c =
       rest = refl;
     }
 
-pub offset-bounds-cells-at : goal.offset-bounds-cells-at
-offset-bounds-cells-at c = let k = within 65536 c.args.at c.args.cells.now (omega arith) in omega arith
+pub offset_bounds-cells-at : goal.offset_bounds-cells-at
+offset_bounds-cells-at c = let k = within 65536 c.args.at c.args.cells.now (omega arith) in omega arith

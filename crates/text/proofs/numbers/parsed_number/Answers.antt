@@ -11,8 +11,8 @@ returns-then-field-eq43 c = both_number c.args.most c.args.field.now _ (omega ar
 pub returns-then-field-gt1 : goal.returns-then-field-gt1
 returns-then-field-gt1 c = both_number c.args.most c.args.field.now _ (omega arith) (λ n l e. omega (arith, decimal_zero _ n (omega arith) e c.if-field-eq48.true))
 
-pub returns-in-default : goal.returns-in-default
-returns-in-default c = both_number c.args.most c.args.field.now _ (omega arith) (λ n l e. c.in-default.ensures.cases.0 (decimal_utf8 _ n (omega arith) e))
+pub returns-in_default : goal.returns-in_default
+returns-in_default c = both_number c.args.most c.args.field.now _ (omega arith) (λ n l e. c.in_default.ensures.cases.0 (decimal_utf8 _ n (omega arith) e))
 
 pub returns-then-n-most : goal.returns-then-n-most
 returns-then-n-most c =

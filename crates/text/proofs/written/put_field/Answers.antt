@@ -8,6 +8,6 @@ returns c =
     let old = c.args.buffer.now in
     let at = c.args.at in
     record {
-      end = omega (arith, c.put-number.ensures.end);
-      left = c.put-number.ensures.left ∙ (ap (placed (at + 1) (decimal c.args.n)) (placed_set at 44 old (omega arith)) ∙ placed_more at (at + 1) (44 ∷ []) (decimal c.args.n) old (omega arith) (omega arith));
+      end = omega (arith, c.put_number.ensures.end);
+      left = c.put_number.ensures.left ∙ (ap (placed (at + 1) (decimal c.args.n)) (placed_set at 44 old (omega arith)) ∙ placed_more at (at + 1) (44 ∷ []) (decimal c.args.n) old (omega arith) (omega arith));
     }
