@@ -5,7 +5,7 @@ use kinds::NumberKind;
 
 // A word plus a constant of the kind: lawful if the word is, or none where there is no such sum or constant.
 pub fn plus_constant<K: NumberKind>(a: u32, n: i32) -> Option<u32>
-    ensures { T (kind.lawful a) → elim result [ Some w ↦ T (kind.lawful w) | None ↦ Unit {0} ] }
+    ensures { T (K.kind.lawful a) → elim result [ Some w ↦ T (K.kind.lawful w) | None ↦ Unit {0} ] }
 {
     let b = K::constant(n)?;
     K::add(a, b).ok()

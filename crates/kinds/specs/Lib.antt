@@ -4,3 +4,4 @@ pub mod Whole
 pub mod Single
 pub mod SingleLaws
 pub mod Singles
+pub mod WholeLaws

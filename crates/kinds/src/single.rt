@@ -1,7 +1,7 @@
 // The finite numbers of IEEE 754's binary32.
 ghost use Rattle.std.specs.Prelude.{◌≡◌, T};
 ghost use Rattle.kinds.specs.Arithmetic.{holds};
-ghost use Rattle.kinds.specs.Single as Single·s;
+ghost use Rattle.kinds.specs.Single as SingleWords;
 ghost use Rattle.kinds.specs.SingleLaws;
 
 use crate::fault::ArithmeticFault;
@@ -15,21 +15,21 @@ const INDEX_LIMIT: u32 = 16777216;
 
 // The number that a word stands for; of an unlawful word an infinity or no number.
 fn number(w: u32) -> f32
-    ensures { result ≡ Single·s.number w }
+    ensures { result ≡ SingleWords.number w }
 {
     f32_from_bits_with_nan(w)
 }
 
 // The exponent's eight bits.
 fn exponent(w: u32) -> u32
-    ensures { result ≡ Single·s.exponent w }
+    ensures { result ≡ SingleWords.exponent w }
 {
     w % 0x8000_0000 / 0x80_0000
 }
 
 // The word of a result, if it is finite.
 fn finite_word(x: f32) -> Result<u32, ArithmeticFault>
-    ensures { result ≡ Single·s.finiteWord x }
+    ensures { result ≡ SingleWords.finiteWord x }
 {
     if x.is_finite() {
         Ok(x.to_bits())
@@ -40,15 +40,15 @@ fn finite_word(x: f32) -> Result<u32, ArithmeticFault>
 
 // The word of a constant of the kind, which binary32 holds exactly.
 fn exact_word(n: i32) -> u32
-    requires { T (holds Single·s.single n) }
-    ensures { result ≡ Single·s.constant n }
+    requires { T (holds SingleWords.single n) }
+    ensures { result ≡ SingleWords.constant n }
 {
     (n as f32).to_bits()
 }
 
 // The number as an index.
 fn index_of(x: f32) -> Option<u32>
-    ensures { result ≡ Single·s.whole x }
+    ensures { result ≡ SingleWords.whole x }
 {
     // Cut to a whole number, 0 for a negative one: the index only if nothing was cut off.
     let n = saturating_f32_to_u32(x);
@@ -64,7 +64,7 @@ impl NumberKind for Single {
 
     const LARGEST: i32 = 16777216;
 
-    ghost kind = { Single·s.single };
+    ghost kind = { SingleWords.single };
 
     ghost laws = { SingleLaws.laws };
 

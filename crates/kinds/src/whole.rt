@@ -2,8 +2,8 @@
 ghost use Rattle.std.specs.Prelude.{◌≡◌};
 ghost use Rattle.std.specs.Option.{option_map, ok_or};
 ghost use Rattle.kinds.specs.declared.fault.ArithmeticFault.TheVariants.{OutOfRange};
-ghost use Rattle.kinds.specs.Whole as Whole·s;
-ghost use Rattle.std.proofs.Common.{rules};
+ghost use Rattle.kinds.specs.Whole as WholeWords;
+ghost use Rattle.kinds.specs.WholeLaws;
 
 use crate::fault::ArithmeticFault;
 use crate::kind::NumberKind;
@@ -12,7 +12,7 @@ pub struct Whole;
 
 // The word of a checked result.
 fn checked(n: Option<i32>) -> Result<u32, ArithmeticFault>
-    ensures { result ≡ ok_or (option_map Whole·s.word n) OutOfRange }
+    ensures { result ≡ ok_or (option_map WholeWords.word n) OutOfRange }
 {
     match n {
         Some(n) => Ok(n.cast_unsigned()),
@@ -25,9 +25,9 @@ impl NumberKind for Whole {
 
     const LARGEST: i32 = 2147483647;
 
-    ghost kind = { Whole·s.whole };
+    ghost kind = { WholeWords.whole };
 
-    ghost laws = { Prim.search rules };
+    ghost laws = { WholeLaws.laws };
 
     fn smallest_constant() -> i32 {
         Self::SMALLEST

@@ -1,6 +1,6 @@
 // Requests played on lent memory: the replies, and what the memory holds when the store's life is over.
 ghost use Rattle.std.specs.Prelude.{◌≡◌, min, true, ◌++◌, length, take, drop};
-ghost use Rattle.stores.specs.Accesses.{replies as replies·s, after_all};
+ghost use Rattle.stores.specs.Accesses.{replies as replies_of, after_all};
 ghost use Rattle.stores.specs.Images.{image_words, image_rest, bytes_of};
 ghost use Rattle.stores.specs.Tables.{table_words, table_rest};
 
@@ -9,7 +9,7 @@ use stores::{Access, ByteImage, Reply, WordTable, same_answers, serve};
 // On a slice of words. Past the table's cells the slice is untouched.
 pub(crate) fn play_words(cells: &mut [u32], requests: &[Access], replies: &mut [Reply]) -> usize
     ensures count { result ≡ min (length requests.now) (length replies.old) }
-    ensures replies { replies.new ≡ replies·s (table_words cells.old) (take result requests.now) ++ drop result replies.old }
+    ensures replies { replies.new ≡ replies_of (table_words cells.old) (take result requests.now) ++ drop result replies.old }
     ensures cells { cells.new ≡ after_all (table_words cells.old) (take result requests.now) ++ table_rest cells.old }
 {
     let mut table = WordTable::new(cells);
@@ -19,7 +19,7 @@ pub(crate) fn play_words(cells: &mut [u32], requests: &[Access], replies: &mut [
 // On a slice of bytes. Past the image's whole cells the slice is untouched.
 pub(crate) fn play_bytes(bytes: &mut [u8], requests: &[Access], replies: &mut [Reply]) -> usize
     ensures count { result ≡ min (length requests.now) (length replies.old) }
-    ensures replies { replies.new ≡ replies·s (image_words bytes.old) (take result requests.now) ++ drop result replies.old }
+    ensures replies { replies.new ≡ replies_of (image_words bytes.old) (take result requests.now) ++ drop result replies.old }
     ensures bytes { bytes.new ≡ bytes_of (after_all (image_words bytes.old) (take result requests.now)) ++ image_rest bytes.old }
 {
     let mut image = ByteImage::new(bytes);

@@ -1,6 +1,6 @@
 // Requests to a store as values, so that any list of them can be played on any store.
 ghost use Rattle.std.specs.Prelude.{◌≡◌, min, true, ◌++◌, length, take, drop, Decides};
-ghost use Rattle.stores.specs.Accesses.{reply, after, replies as replies·s, after_all};
+ghost use Rattle.stores.specs.Accesses.{reply, after, replies as replies_of, after_all};
 
 use crate::store::{PutAnswer, Store};
 
@@ -44,7 +44,7 @@ pub fn answer<S: Store>(store: &mut S, request: Access) -> Reply
 // Makes the requests in order, as many as there are places for replies, and tells how many that were.
 pub fn serve<S: Store>(store: &mut S, requests: &[Access], replies: &mut [Reply]) -> usize
     ensures count { result ≡ min (length requests.now) (length replies.old) }
-    ensures replies { replies.new ≡ replies·s (S.Store.words store.old) (take result requests.now) ++ drop result replies.old }
+    ensures replies { replies.new ≡ replies_of (S.Store.words store.old) (take result requests.now) ++ drop result replies.old }
     ensures words { S.Store.words store.new ≡ after_all (S.Store.words store.old) (take result requests.now) }
     ensures loan { S.Store.loan store.new ≡ S.Store.loan store.old }
     ensures rest { S.Store.rest store.new ≡ S.Store.rest store.old }
@@ -60,7 +60,7 @@ pub fn serve<S: Store>(store: &mut S, requests: &[Access], replies: &mut [Reply]
 // they are.
 pub fn same_answers<A: Store, B: Store>(first: &mut A, second: &mut B, requests: &[Access]) -> bool
     ensures alike { A.Store.words first.old ≡ B.Store.words second.old → result ≡ true }
-    ensures told { Decides result (replies·s (A.Store.words first.old) requests.now ≡ replies·s (B.Store.words second.old) requests.now) }
+    ensures told { Decides result (replies_of (A.Store.words first.old) requests.now ≡ replies_of (B.Store.words second.old) requests.now) }
     ensures first_words { A.Store.words first.new ≡ after_all (A.Store.words first.old) requests.now }
     ensures first_loan { A.Store.loan first.new ≡ A.Store.loan first.old }
     ensures first_rest { A.Store.rest first.new ≡ A.Store.rest first.old }

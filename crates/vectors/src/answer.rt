@@ -56,7 +56,7 @@ fn of_result(r: Result<u32, ArithmeticFault>) -> Answer
 }
 
 pub(crate) fn answer_of<K: NumberKind>(operation: Operation, a: u32, b: u32) -> Answer
-    ensures { result ≡ answered kind operation a b }
+    ensures { result ≡ answered K.kind operation a b }
 {
     match operation {
         Operation::Add => of_result(K::add(a, b)),

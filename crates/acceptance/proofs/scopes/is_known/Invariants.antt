@@ -5,5 +5,5 @@ use Rattle.acceptance.proofs.scopes.is_known.Given as goal
 
 abbrev pub invariant-loop-step : goal.invariant-loop-step
 invariant-loop-step l =
-    known_from l.sought l.name (lines_of l.records) (length (lines_of l.records) - l.-step) l.at
+    known_from l.sought l.name (lines_of l.records) (length (lines_of l.records) - l._step) l.at
     ≡ known_from l.sought l.name (lines_of l.records) (length (lines_of l.records)) l.n

@@ -5,4 +5,4 @@ use Rattle.resolution.proofs.names.system_over.Given as goal
 
 abbrev pub invariant-loop-step : goal.invariant-loop-step
 invariant-loop-step l =
-    system_from (lines_of l.records) (length (lines_of l.records) - l.-step) l.at ≡ system_at (lines_of l.records) l.n
+    system_from (lines_of l.records) (length (lines_of l.records) - l._step) l.at ≡ system_at (lines_of l.records) l.n

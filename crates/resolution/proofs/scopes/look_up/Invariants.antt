@@ -5,5 +5,5 @@ use Rattle.resolution.proofs.scopes.look_up.Given as goal
 
 abbrev pub invariant-loop-step : goal.invariant-loop-step
 invariant-loop-step l =
-    declared_from l.sought l.name (lines_of l.records) (length (lines_of l.records) - l.-step) l.at
+    declared_from l.sought l.name (lines_of l.records) (length (lines_of l.records) - l._step) l.at
     ≡ declared_around l.sought l.name (lines_of l.records) l.n
