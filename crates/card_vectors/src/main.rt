@@ -1,5 +1,6 @@
 // Holds reading and acceptance to sheets made elsewhere: says how many are accepted or refused as they should be.
 #![tactic(auto)]
+
 mod cases;
 
 use acceptance::verdict::accept;

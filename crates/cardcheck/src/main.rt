@@ -1,5 +1,6 @@
 // Reads a sheet from standard input and tells what the card holds, or why it is refused.
 #![tactic(auto)]
+
 mod words;
 
 use acceptance::verdict::accept;

@@ -1,5 +1,6 @@
 // Whether the lines of a sheet are a script together: the checks of the whole sheet.
 #![tactic(auto)]
+
 mod classes;
 mod declared;
 mod form;

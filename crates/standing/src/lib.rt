@@ -1,3 +1,4 @@
 // When the records of a sheet stand for its text.
 #![tactic(auto)]
+
 pub mod laws;

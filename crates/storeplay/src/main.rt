@@ -1,5 +1,6 @@
 // Plays one list of requests on a table of words and on a byte image, and prints what both reply and what the memory then holds.
 #![tactic(auto)]
+
 mod play;
 #[cfg(test)]
 mod tests;
