@@ -1,5 +1,6 @@
 // What the number kinds' operations come to, in exact numbers.
 #![tactic(auto)]
+
 mod any;
 mod single;
 #[cfg(test)]

@@ -9,14 +9,14 @@ use crate::theorems::{
     constants_are_exact, differences_round, equality_is_of_numbers, indexes_are_exact,
     order_is_of_numbers, products_round, quotients_round, sums_round,
 };
-use kinds::{ArithmeticFault, NumberKind};
+use kinds::{ArithmeticFault, NumberKind, Single};
 
 // The word nearest to the exact sum, at a tie the even one; out of range where that would be 2 ^ 128 or more.
 pub fn rounded_sum(a: u32, b: u32) -> Result<u32, ArithmeticFault>
     ensures { T (lawful a) → T (lawful b) → Sum a b result }
 {
     sums_round();
-    <kinds::Single as NumberKind>::add(a, b)
+    Single::add(a, b)
 }
 
 // The same of the difference.
@@ -24,7 +24,7 @@ pub fn rounded_difference(a: u32, b: u32) -> Result<u32, ArithmeticFault>
     ensures { T (lawful a) → T (lawful b) → Difference a b result }
 {
     differences_round();
-    <kinds::Single as NumberKind>::subtract(a, b)
+    Single::subtract(a, b)
 }
 
 // The same of the product.
@@ -32,7 +32,7 @@ pub fn rounded_product(a: u32, b: u32) -> Result<u32, ArithmeticFault>
     ensures { T (lawful a) → T (lawful b) → Product a b result }
 {
     products_round();
-    <kinds::Single as NumberKind>::multiply(a, b)
+    Single::multiply(a, b)
 }
 
 // The same of the quotient; a zero divisor has a fault of its own.
@@ -40,7 +40,7 @@ pub fn rounded_quotient(a: u32, b: u32) -> Result<u32, ArithmeticFault>
     ensures { T (lawful a) → T (lawful b) → Quotient a b result }
 {
     quotients_round();
-    <kinds::Single as NumberKind>::divide(a, b)
+    Single::divide(a, b)
 }
 
 // Whether two words stand for the same number.
@@ -48,7 +48,7 @@ pub fn same_number(a: u32, b: u32) -> bool
     ensures { T (lawful a) → T (lawful b) → Equality a b result }
 {
     equality_is_of_numbers();
-    <kinds::Single as NumberKind>::equal(a, b)
+    Single::equal(a, b)
 }
 
 // Whether the first word's number is the smaller one.
@@ -56,7 +56,7 @@ pub fn smaller_number(a: u32, b: u32) -> bool
     ensures { T (lawful a) → T (lawful b) → result ≡ int_lt (units a) (units b) }
 {
     order_is_of_numbers();
-    <kinds::Single as NumberKind>::less(a, b)
+    Single::less(a, b)
 }
 
 // The word whose number is exactly n.
@@ -64,7 +64,7 @@ pub fn exact_constant(n: i32) -> Option<u32>
     ensures { Constant n result }
 {
     constants_are_exact();
-    <kinds::Single as NumberKind>::constant(n)
+    Single::constant(n)
 }
 
 // The n from 0 to 16,777,215 that the word's number is exactly.
@@ -72,5 +72,5 @@ pub fn exact_index(w: u32) -> Option<u32>
     ensures { T (lawful w) → Index w result }
 {
     indexes_are_exact();
-    <kinds::Single as NumberKind>::index(w)
+    Single::index(w)
 }

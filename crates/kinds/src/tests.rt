@@ -1,6 +1,8 @@
 // Examples of both kinds.
 use crate::fault::ArithmeticFault;
 use crate::kind::NumberKind;
+use crate::single::Single;
+use crate::whole::Whole;
 
 // The faults, as the results of operations.
 const OUT: Result<u32, ArithmeticFault> = Err(ArithmeticFault::OutOfRange);
@@ -13,89 +15,41 @@ fn word(n: i32) -> u32 {
 
 #[test]
 fn whole_numbers(rt: HostRuntime) {
+    assert_eq!(rt; Whole::add(word(2147483647), word(1)), OUT);
+    assert_eq!(rt; Whole::divide(word(-7), word(2)), Ok(word(-3)));
+    assert_eq!(rt; Whole::divide(word(-2147483648), word(-1)), OUT);
     assert_eq!(rt;
-        <crate::whole::Whole as NumberKind>::add(word(2147483647), word(1)),
-        OUT
-    );
-    assert_eq!(rt;
-        <crate::whole::Whole as NumberKind>::divide(word(-7), word(2)),
-        Ok(word(-3))
-    );
-    assert_eq!(rt;
-        <crate::whole::Whole as NumberKind>::divide(word(-2147483648), word(-1)),
-        OUT
-    );
-    assert_eq!(rt;
-        <crate::whole::Whole as NumberKind>::divide(word(-2147483648), word(1)),
+        Whole::divide(word(-2147483648), word(1)),
         Ok(word(-2147483648))
     );
-    assert_eq!(rt;
-        <crate::whole::Whole as NumberKind>::divide(word(5), word(0)),
-        ZERO_DIVISOR
-    );
-    assert_eq!(rt; <crate::whole::Whole as NumberKind>::index(word(-1)), None);
-    assert_eq!(rt;
-        <crate::whole::Whole as NumberKind>::constant(-2147483648),
-        Some(0x8000_0000)
-    );
-    assert_eq!(rt;
-        <crate::whole::Whole as NumberKind>::constant(2147483647),
-        Some(0x7fff_ffff)
-    );
+    assert_eq!(rt; Whole::divide(word(5), word(0)), ZERO_DIVISOR);
+    assert_eq!(rt; Whole::index(word(-1)), None);
+    assert_eq!(rt; Whole::constant(-2147483648), Some(0x8000_0000));
+    assert_eq!(rt; Whole::constant(2147483647), Some(0x7fff_ffff));
 }
 
 #[test]
 fn single_words(rt: HostRuntime) {
-    assert!(rt; <crate::single::Single as NumberKind>::is_lawful(2139095039));
-    assert!(rt; !<crate::single::Single as NumberKind>::is_lawful(2139095040));
-    assert_eq!(rt;
-        <crate::single::Single as NumberKind>::constant(-16777216),
-        Some(0xcb80_0000)
-    );
-    assert_eq!(rt;
-        <crate::single::Single as NumberKind>::constant(16777216),
-        Some(0x4b80_0000)
-    );
-    assert_eq!(rt;
-        <crate::single::Single as NumberKind>::constant(-16777217),
-        None
-    );
-    assert_eq!(rt;
-        <crate::single::Single as NumberKind>::constant(16777217),
-        None
-    );
-    assert_eq!(rt;
-        <crate::single::Single as NumberKind>::index(0x8000_0000),
-        Some(0)
-    );
-    assert!(rt; <crate::single::Single as NumberKind>::equal(0x8000_0000, 0));
-    assert!(rt; !<crate::single::Single as NumberKind>::less(0x8000_0000, 0));
+    assert!(rt; Single::is_lawful(2139095039));
+    assert!(rt; !Single::is_lawful(2139095040));
+    assert_eq!(rt; Single::constant(-16777216), Some(0xcb80_0000));
+    assert_eq!(rt; Single::constant(16777216), Some(0x4b80_0000));
+    assert_eq!(rt; Single::constant(-16777217), None);
+    assert_eq!(rt; Single::constant(16777217), None);
+    assert_eq!(rt; Single::index(0x8000_0000), Some(0));
+    assert!(rt; Single::equal(0x8000_0000, 0));
+    assert!(rt; !Single::less(0x8000_0000, 0));
 }
 
 #[test]
 fn single_numbers(rt: HostRuntime) {
     // 1 / 3, and the largest number twice
-    assert_eq!(rt;
-        <crate::single::Single as NumberKind>::divide(0x3f80_0000, 0x4040_0000),
-        Ok(0x3eaa_aaab)
-    );
-    assert_eq!(rt;
-        <crate::single::Single as NumberKind>::add(2139095039, 2139095039),
-        OUT
-    );
-    assert_eq!(rt;
-        <crate::single::Single as NumberKind>::divide(0x3f80_0000, 0x8000_0000),
-        ZERO_DIVISOR
-    );
+    assert_eq!(rt; Single::divide(0x3f80_0000, 0x4040_0000), Ok(0x3eaa_aaab));
+    assert_eq!(rt; Single::add(2139095039, 2139095039), OUT);
+    assert_eq!(rt; Single::divide(0x3f80_0000, 0x8000_0000), ZERO_DIVISOR);
     // half of the smallest number, and of three times it: both lie halfway, and the even word is taken
-    assert_eq!(rt;
-        <crate::single::Single as NumberKind>::multiply(1, 0x3f00_0000),
-        Ok(0)
-    );
-    assert_eq!(rt;
-        <crate::single::Single as NumberKind>::multiply(3, 0x3f00_0000),
-        Ok(2)
-    );
+    assert_eq!(rt; Single::multiply(1, 0x3f00_0000), Ok(0));
+    assert_eq!(rt; Single::multiply(3, 0x3f00_0000), Ok(2));
 }
 
 #[test]

@@ -33,7 +33,7 @@ pub trait Store {
     fn load(&self, at: usize) -> Option<u32>
         ensures { result ≡ slice_get (words self.now) at };
 
-    // Sets a cell to a word, and no other cell. A refused put changes nothing: `set` leaves a list as it is at its length and above.
+    // Sets a cell to a word, and no other cell. A refused put changes nothing: `slice_set` leaves a list as it is at its length and above.
     fn put(&mut self, at: usize, word: u32) -> PutAnswer
         ensures answer { AnswersPut (words self.old) at result }
         ensures words { words self.new ≡ slice_set (words self.old) at word }

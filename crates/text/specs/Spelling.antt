@@ -1,5 +1,5 @@
 -- Numbers as a sheet spells them: in decimal, with no leading zero and no plus, a minus before the negative ones, and no minus before 0.
--- `decimal n` and `signed z` are the library's spellings of a whole number from 0 and of an integer.
+-- `decimal n` and `signed_decimal z` are the library's spellings of a whole number from 0 and of an integer.
 use Rattle.std.specs.Prelude.{◌≡◌, ℕ, zero, suc, ◌^◌, ◌<◌, ◌≤◌, Bool, false, cond, not, ◌&&◌, List, [], ◌∷◌, ℤ, pos, negsuc, Some, None, decimal, Option, ◌==◌, ◌≢◌, nat_le}
 use Rattle.std.specs.Int.Signed.{mag}
 use Rattle.std.specs.Fmt.{signed_decimal}
