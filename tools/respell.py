@@ -18,6 +18,16 @@ TOKEN = re.compile(r"(?<![\w'′-])([A-Za-zα-ωΑ-Ω][\w'′₀-₉⁺]*(?:-[\w
 SIGNATURE = re.compile(r"^([ \t]*)((?:(?:pattern|unfoldable|abbrev|pub|axiom)\s+)*)((?:record|data)\s+)?([A-Za-zα-ω][^\s(){}:;,.]*)((?:\s+[({][^=\n]*)?)\s:\s(.*(?:\n[ \t]+(?:→|×|≡).*)*)", re.M)
 
 
+# the names in mixed case
+MIXED = {
+    "constantWord": "constant_word",
+    "finiteAnswer": "finite_answer",
+    "finiteWord": "finite_word",
+    "sumSign": "sum_sign",
+    "getD_last": "get_or_last",
+}
+
+
 def files(*endings):
     for top in ("crates", "docs", "."):
         for folder, dirs, names in os.walk(top):
@@ -65,7 +75,7 @@ def own_names():
             if name[0].isupper() and not is_type and re.search(r"\bType\b", kind):
                 is_type = True
             found[name] = found.get(name, False) or is_type
-        for m in re.finditer(r"^[ \t]*(?:abbrev |pub |mutual|unfoldable )*((?:[A-Za-z][\w'-]*\s+)+[A-Za-z][\w'-]*)\s:\s", text, re.M):
+        for m in re.finditer(r"^[ \t]*(?:abbrev |pub |mutual|unfoldable )*((?:[A-Za-z][\w'-]*\s+)+[A-Za-z][\w'-]*)\s:\s(?!goals?\.|needs?\.|rules\.)", text, re.M):
             for name in m.group(1).split():
                 if "-" in name and not is_made(path, name):
                     found.setdefault(name, False)
@@ -95,6 +105,7 @@ def turn(text, path, names):
         return names.get(m.group(1), m.group(1))
 
     def words(part):
+        part = re.sub(r"(?<![\w'-])(" + "|".join(MIXED) + r")(?![\w'-])", lambda m: MIXED[m.group(1)], part)
         return TOKEN.sub(put, part.replace("after-all-++", "after_all-++"))
 
     def quoted(part):

@@ -12,7 +12,7 @@ use lib.Ieee.Fits.{down_pos, of_int-fits}
 use Rattle.std.proofs.lemmas.Int.{ints}
 use Rattle.std.proofs.lemmas.Bool.Decides.{nat_tests}
 use Rattle.std.proofs.lemmas.Bool.{ltb-true, lt-ltb, le-ltb, eqb-true, eq-eqb, and_parts, and_from, cond-true}
-use Rattle.kinds.specs.Arithmetic.{holds, constantWord}
+use Rattle.kinds.specs.Arithmetic.{holds, constant_word}
 use Rattle.kinds.specs.Single as Single
 use Rattle.kinds.specs.Single.{lawful, number, constant, index}
 use Rattle.kinds.specs.Singles.{lawful_finite, constant_lawful}
@@ -133,7 +133,7 @@ constant_units z h =
     ap (λ (b : Bool). signed b (magnitude w)) (same_sign (number w) (negative w) i.0 (magnitude w) (i.1 * 2 ^ 149) u v)
     ∙ ap (λ (n : ℕ). signed i.0 n) (same_units (number w) (negative w) i.0 (magnitude w) (i.1 * 2 ^ 149) u v) ∙ i.3
 
-pub constants : (z : ℤ) → Constant z (constantWord Single.single z)
+pub constants : (z : ℤ) → Constant z (constant_word Single.single z)
 constants z = go (holds Single.single z) refl
   where
     go : (b : Bool) → holds Single.single z ≡ b → Constant z (cond b (Some (constant z)) None)

@@ -11,9 +11,9 @@ use Rattle.std.proofs.lemmas.Bool.{ltb-true, ltb-false, eq-eqb, ne_eqb, and_from
 use Rattle.kinds.specs.declared.fault.ArithmeticFault.{ArithmeticFault}
 use Rattle.kinds.specs.declared.fault.ArithmeticFault.TheVariants.{ZeroDivisor}
 use Rattle.kinds.specs.Single as Single
-use Rattle.kinds.specs.Single.{lawful, number, finiteWord}
+use Rattle.kinds.specs.Single.{lawful, number, finite_word}
 use Rattle.kind_laws.specs.Exact.{negative, magnitude, signed, units, one}
-use Rattle.kind_laws.specs.Rounding.{Rounds, sumSign, Sum, Difference, Product, Quotient}
+use Rattle.kind_laws.specs.Rounding.{Rounds, sum_sign, Sum, Difference, Product, Quotient}
 use Rattle.kind_laws.proofs.Words.{word_value}
 use Rattle.kind_laws.proofs.Signs.{size_of, signed_zero, signed_mul}
 use Rattle.kind_laws.proofs.Scaling.{sub_mul}
@@ -33,19 +33,19 @@ sum_down : (s : Bool) (g h : ℕ) → h ≤ g → signed s g +ℤ signed (not s)
 sum_down false g h l = omega (arith, ints)
 sum_down true g h l = omega (arith, ints)
 
-sign_like : (s : Bool) (n : ℕ) → sumSign (signed s n) s s ≡ s
+sign_like : (s : Bool) (n : ℕ) → sum_sign (signed s n) s s ≡ s
 sign_like false zero = refl
 sign_like false (suc n) = refl
 sign_like true zero = refl
 sign_like true (suc n) = refl
 
-sign_of : (s a b : Bool) (n : ℕ) → 0 < n → sumSign (signed s n) a b ≡ s
+sign_of : (s a b : Bool) (n : ℕ) → 0 < n → sum_sign (signed s n) a b ≡ s
 sign_of s a b zero h = absurd (let z : 0 < 0 = h in omega arith)
 sign_of false a b (suc n) h = refl
 sign_of true a b (suc n) h = refl
 
-sign_none : (s t : Bool) (n : ℕ) → n ≡ 0 → sumSign (signed t n) s (not s) ≡ false
-sign_none s t n e = ap (λ (k : ℕ). sumSign (signed t k) s (not s)) e ∙ ap (λ (z : ℤ). sumSign z s (not s)) (signed_zero t) ∙ none s
+sign_none : (s t : Bool) (n : ℕ) → n ≡ 0 → sum_sign (signed t n) s (not s) ≡ false
+sign_none s t n e = ap (λ (k : ℕ). sum_sign (signed t k) s (not s)) e ∙ ap (λ (z : ℤ). sum_sign z s (not s)) (signed_zero t) ∙ none s
   where
     none : (s : Bool) → (s && not s) ≡ false
     none false = refl
@@ -56,11 +56,11 @@ like_self false = refl
 like_self true = refl
 
 -- p is the signed number v units, and b the sign that the sum has
-summed : (p : ℤ) (s t b σ : Bool) (A C v : ℕ) → 0 < C → v * C ≡ A * 2 ^ 149 → p ≡ signed σ v → σ ≡ b → sumSign p s t ≡ b
-    → Rounds p (pos 1) (sumSign p s t) (finiteWord (round binary32 b A C))
+summed : (p : ℤ) (s t b σ : Bool) (A C v : ℕ) → 0 < C → v * C ≡ A * 2 ^ 149 → p ≡ signed σ v → σ ≡ b → sum_sign p s t ≡ b
+    → Rounds p (pos 1) (sum_sign p s t) (finite_word (round binary32 b A C))
 summed p s t b σ A C v c e i o k =
-    subst (λ (z : ℤ). Rounds z (pos 1) (sumSign p s t) (finiteWord (round binary32 b A C))) (sym i)
-    (subst (λ (y : Bool). Rounds (signed σ v) (pos 1) y (finiteWord (round binary32 b A C))) (sym k)
+    subst (λ (z : ℤ). Rounds z (pos 1) (sum_sign p s t) (finite_word (round binary32 b A C))) (sym i)
+    (subst (λ (y : Bool). Rounds (signed σ v) (pos 1) y (finite_word (round binary32 b A C))) (sym k)
     (rounds b σ false A C v 1 c (omega arith) (e ∙ sym (mul-one (A * 2 ^ 149))) (like_self b ∙ sym o)))
 
 pub under : (A B C g h : ℕ) → A * 2 ^ 149 ≡ g * C → B * 2 ^ 149 ≡ h * C → A < B → g < h
@@ -73,33 +73,33 @@ less : (A B C g h : ℕ) → A * 2 ^ 149 ≡ g * C → B * 2 ^ 149 ≡ h * C →
 less A B C g h a b = sub_mul h g C ∙ ap (λ (x : ℕ). x - g * C) (sym b) ∙ ap (λ (x : ℕ). B * 2 ^ 149 - x) (sym a) ∙ sym (sub_mul B A (2 ^ 149))
 
 like_sum : (s : Bool) (A B C g h : ℕ) → 0 < C → A * 2 ^ 149 ≡ g * C → B * 2 ^ 149 ≡ h * C
-    → Rounds (signed s g +ℤ signed s h) (pos 1) (sumSign (signed s g +ℤ signed s h) s s) (finiteWord (round binary32 s (A + B) C))
+    → Rounds (signed s g +ℤ signed s h) (pos 1) (sum_sign (signed s g +ℤ signed s h) s s) (finite_word (round binary32 s (A + B) C))
 like_sum s A B C g h c a b =
     summed (signed s g +ℤ signed s h) s s s s (A + B) C (g + h) c
     (add-mul g h C ∙ ap (λ (x : ℕ). x + h * C) (sym a) ∙ ap (λ (x : ℕ). A * 2 ^ 149 + x) (sym b) ∙ sym (add-mul A B (2 ^ 149)))
-    (sum_like s g h) refl (ap (λ (z : ℤ). sumSign z s s) (sum_like s g h) ∙ sign_like s (g + h))
+    (sum_like s g h) refl (ap (λ (z : ℤ). sum_sign z s s) (sum_like s g h) ∙ sign_like s (g + h))
 
 unlike_sum : (s : Bool) (A B C g h : ℕ) → 0 < C → A * 2 ^ 149 ≡ g * C → B * 2 ^ 149 ≡ h * C
-    → Rounds (signed s g +ℤ signed (not s) h) (pos 1) (sumSign (signed s g +ℤ signed (not s) h) s (not s))
-    (finiteWord (cond (ltb A B) (round binary32 (not s) (B - A) C) (round binary32 (s && ltb B A) (A - B) C)))
+    → Rounds (signed s g +ℤ signed (not s) h) (pos 1) (sum_sign (signed s g +ℤ signed (not s) h) s (not s))
+    (finite_word (cond (ltb A B) (round binary32 (not s) (B - A) C) (round binary32 (s && ltb B A) (A - B) C)))
 unlike_sum s A B C g h c a b = go (ltb A B) refl (ltb B A) refl
   where
     p : ℤ
     p = signed s g +ℤ signed (not s) h
 
     go : (x : Bool) → ltb A B ≡ x → (y : Bool) → ltb B A ≡ y
-        → Rounds (signed s g +ℤ signed (not s) h) (pos 1) (sumSign (signed s g +ℤ signed (not s) h) s (not s))
-        (finiteWord (cond x (round binary32 (not s) (B - A) C) (round binary32 (s && y) (A - B) C)))
+        → Rounds (signed s g +ℤ signed (not s) h) (pos 1) (sum_sign (signed s g +ℤ signed (not s) h) s (not s))
+        (finite_word (cond x (round binary32 (not s) (B - A) C) (round binary32 (s && y) (A - B) C)))
     go true i y j =
         let l : g < h = under A B C g h a b (ltb-true A B i) in
         let q = sum_up s g h (omega arith) in
         summed (signed s g +ℤ signed (not s) h) s (not s) (not s) (not s) (B - A) C (h - g) c (less A B C g h a b) q refl
-        (ap (λ (z : ℤ). sumSign z s (not s)) q ∙ sign_of (not s) s (not s) (h - g) (omega arith))
+        (ap (λ (z : ℤ). sum_sign z s (not s)) q ∙ sign_of (not s) s (not s) (h - g) (omega arith))
     go false i true j =
         let l : h < g = under B A C h g b a (ltb-true B A j) in
         let q = sum_down s g h (omega arith) in
         summed (signed s g +ℤ signed (not s) h) s (not s) (s && true) s (A - B) C (g - h) c (less B A C h g b a) q (kept s)
-        (ap (λ (z : ℤ). sumSign z s (not s)) q ∙ sign_of s s (not s) (g - h) (omega arith) ∙ kept s)
+        (ap (λ (z : ℤ). sum_sign z s (not s)) q ∙ sign_of s s (not s) (g - h) (omega arith) ∙ kept s)
       where
         kept : (s : Bool) → s ≡ (s && true)
         kept false = refl
@@ -110,14 +110,14 @@ unlike_sum s A B C g h c a b = go (ltb A B) refl (ltb B A) refl
         let z : g - h ≡ 0 = omega arith in
         let q : signed s g +ℤ signed (not s) h ≡ signed false (g - h) = sum_down s g h l ∙ ap (λ (n : ℕ). signed s n) z ∙ signed_zero s ∙ ap pos (sym z) in
         summed (signed s g +ℤ signed (not s) h) s (not s) (s && false) false (A - B) C (g - h) c (less B A C h g b a) q (none s)
-        (ap (λ (z : ℤ). sumSign z s (not s)) q ∙ sign_none s false (g - h) z ∙ none s)
+        (ap (λ (z : ℤ). sum_sign z s (not s)) q ∙ sign_none s false (g - h) z ∙ none s)
       where
         none : (s : Bool) → false ≡ (s && false)
         none false = refl
         none true = refl
 
 signed_sum : (s t : Bool) (A B C g h : ℕ) → 0 < C → A * 2 ^ 149 ≡ g * C → B * 2 ^ 149 ≡ h * C
-    → Rounds (signed s g +ℤ signed t h) (pos 1) (sumSign (signed s g +ℤ signed t h) s t) (finiteWord (sum binary32 s A t B C))
+    → Rounds (signed s g +ℤ signed t h) (pos 1) (sum_sign (signed s g +ℤ signed t h) s t) (finite_word (sum binary32 s A t B C))
 unfolding sum
 signed_sum false false A B C g h c a b = like_sum false A B C g h c a b
 signed_sum true true A B C g h c a b = like_sum true A B C g h c a b
@@ -149,14 +149,14 @@ pub right : (n : ℕ) (e d : ℤ) (h : ℕ) → n * up d * 2 ^ 149 ≡ h * down 
 right n e d h b = left n d e h b ∙ ap (λ (x : ℕ). h * x) (mul_comm (down d) (down e))
 
 abbrev RSum : ℤ → ℤ → Bool → Bool → Result ℕ ArithmeticFault → Type 0
-RSum x y s t r = Rounds (x +ℤ y) (pos 1) (sumSign (x +ℤ y) s t) r
+RSum x y s t r = Rounds (x +ℤ y) (pos 1) (sum_sign (x +ℤ y) s t) r
 
-sums : Op RSum (λ x y. finiteWord (add binary32 x y))
+sums : Op RSum (λ x y. finite_word (add binary32 x y))
 unfolding add
-sums = by_parts RSum (λ x y. finiteWord (add binary32 x y)) at
+sums = by_parts RSum (λ x y. finite_word (add binary32 x y)) at
   where
     at : (s t : Bool) (m n : ℕ) (e d : ℤ) (g h : ℕ) → m * up e * 2 ^ 149 ≡ g * down e → n * up d * 2 ^ 149 ≡ h * down d
-        → RSum (signed s g) (signed t h) s t (finiteWord (add binary32 (fin s m e) (fin t n d)))
+        → RSum (signed s g) (signed t h) s t (finite_word (add binary32 (fin s m e) (fin t n d)))
     at s t m n e d g h a b = signed_sum s t (m * up e * down d) (n * up d * down e) (down e * down d) g h (mul-pos (down_pos e) (down_pos d)) (left m e d g a) (right n e d h b)
 
 pub sum_rounds : (a b : ℕ) → T (lawful a) → T (lawful b) → Sum a b ((Single.single).sum a b)
@@ -177,7 +177,7 @@ minus x true h = ap (λ (z : ℤ). x +ℤ z) (sym (neg_ℤ-neg_ℤ (pos h)))
 pub difference_rounds : (a b : ℕ) → T (lawful a) → T (lawful b) → Difference a b ((Single.single).difference a b)
 unfolding sub
 difference_rounds a b p q =
-    subst (λ (z : ℤ). Rounds z (pos 1) (sumSign z (negative a) (not (negative b))) (finiteWord (add binary32 (number a) (neg (number b))))) (minus (units a) (negative b) (magnitude b))
+    subst (λ (z : ℤ). Rounds z (pos 1) (sum_sign z (negative a) (not (negative b))) (finite_word (add binary32 (number a) (neg (number b))))) (minus (units a) (negative b) (magnitude b))
     (sums (number a) (neg (number b)) (negative a) (not (negative b)) (magnitude a) (magnitude b) (word_value a p) (negated (number b) (negative b) (magnitude b) (word_value b q)))
 
 -- ---- products
@@ -185,19 +185,19 @@ difference_rounds a b p q =
 abbrev RProduct : ℤ → ℤ → Bool → Bool → Result ℕ ArithmeticFault → Type 0
 RProduct x y s t r = Rounds (x *ℤ y) (pos one) (unlike s t) r
 
-products : Op RProduct (λ x y. finiteWord (mul binary32 x y))
+products : Op RProduct (λ x y. finite_word (mul binary32 x y))
 unfolding mul
-products = by_parts RProduct (λ x y. finiteWord (mul binary32 x y)) at
+products = by_parts RProduct (λ x y. finite_word (mul binary32 x y)) at
   where
     at : (s t : Bool) (m n : ℕ) (e d : ℤ) (g h : ℕ) → m * up e * 2 ^ 149 ≡ g * down e → n * up d * 2 ^ 149 ≡ h * down d
-        → RProduct (signed s g) (signed t h) s t (finiteWord (mul binary32 (fin s m e) (fin t n d)))
+        → RProduct (signed s g) (signed t h) s t (finite_word (mul binary32 (fin s m e) (fin t n d)))
     at s t m n e d g h a b =
         let X = m * up e in
         let Y = n * up d in
         let size : g * h * (down e * down d) ≡ X * Y * 2 ^ 149 * 2 ^ 149 =
         mul-mul-mul_comm g h (down e) (down d) ∙ ap (λ (x : ℕ). x * (h * down d)) (sym a) ∙ ap (λ (x : ℕ). X * 2 ^ 149 * x) (sym b)
         ∙ mul-mul-mul_comm X (2 ^ 149) Y (2 ^ 149) ∙ sym (mul_assoc (X * Y) (2 ^ 149) (2 ^ 149)) in
-        subst (λ (z : ℤ). Rounds z (pos one) (unlike s t) (finiteWord (round binary32 (unlike s t) (X * Y) (down e * down d)))) (sym (signed_mul s t g h))
+        subst (λ (z : ℤ). Rounds z (pos one) (unlike s t) (finite_word (round binary32 (unlike s t) (X * Y) (down e * down d)))) (sym (signed_mul s t g h))
         (rounds (unlike s t) (unlike s t) false (X * Y) (down e * down d) (g * h) (2 ^ 149) (mul-pos (down_pos e) (down_pos d)) (pow_pos 149) size (like_self (unlike s t)))
 
 pub product_rounds : (a b : ℕ) → T (lawful a) → T (lawful b) → Product a b ((Single.single).product a b)
@@ -209,7 +209,7 @@ abbrev RQuotient : ℤ → ℤ → Bool → Bool → Result ℕ ArithmeticFault 
 RQuotient x y s t r = (y ≡ pos 0 → r ≡ Err ZeroDivisor) × ((y ≡ pos 0 → ⊥) → Rounds (x *ℤ pos one) y (unlike s t) r)
 
 abbrev divided : Float → Float → Result ℕ ArithmeticFault
-divided x y = cond (eq y (number 0)) (Err ZeroDivisor) (finiteWord (div binary32 x y))
+divided x y = cond (eq y (number 0)) (Err ZeroDivisor) (finite_word (div binary32 x y))
 
 zero_number : number 0 ≡ fin false 0 (pos 0)
 unfolding of_bits of_fields odd
@@ -244,7 +244,7 @@ quotients = by_parts RQuotient divided at
     at s t m zero e d g h a b =
         let z : h ≡ 0 = eq_of_mul-eq-mul_right (down d) (down_pos d) h 0 (sym b ∙ ap (λ (x : ℕ). x * 2 ^ 149) (zero-mul (up d)) ∙ zero-mul (2 ^ 149) ∙ sym (zero-mul (down d))) in
         let q : eq (fin t 0 d) (number 0) ≡ true = ap (λ (x : Float). eq (fin t 0 d) x) zero_number ∙ zero_level t d in (
-          (λ _. ap (λ (c : Bool). cond c (Err ZeroDivisor) (finiteWord (div binary32 (fin s m e) (fin t 0 d)))) q),
+          (λ _. ap (λ (c : Bool). cond c (Err ZeroDivisor) (finite_word (div binary32 (fin s m e) (fin t 0 d)))) q),
           (λ no_zero. absurd (no_zero (ap (λ (x : ℕ). signed t x) z ∙ signed_zero t))),
         )
     at s t m (suc n) e d g h a b =
@@ -257,9 +257,9 @@ quotients = by_parts RQuotient divided at
         ap (λ (x : ℕ). g * 2 ^ 149 * x) (mul_comm Y (down e)) ∙ mul-mul-mul_comm g (2 ^ 149) (down e) Y ∙ ap (λ (x : ℕ). x * (2 ^ 149 * Y)) (sym a)
         ∙ ap (λ (x : ℕ). X * 2 ^ 149 * x) (mul_comm (2 ^ 149) Y ∙ b ∙ mul_comm h (down d)) ∙ mul-mul-mul_comm X (2 ^ 149) (down d) h ∙ sym (mul_assoc (X * down d) (2 ^ 149) h) in (
           (λ no. absurd (some (sym (size_of t h) ∙ ap nat_abs no))),
-          (λ _. subst (λ (c : Bool). Rounds (signed s g *ℤ pos one) (signed t h) (unlike s t) (cond c (Err ZeroDivisor) (finiteWord (div binary32 (fin s m e) (fin t (suc n) d))))) (sym q)
-              (subst (λ (c : Bool). Rounds (signed s g *ℤ pos one) (signed t h) (unlike s t) (finiteWord (cond c (cond (eqb m 0) nan (inf (unlike s t))) (round binary32 (unlike s t) (X * down d) (Y * down e))))) (sym (ne_eqb (suc n) 0 (λ z. omega arith)))
-              (subst (λ (z : ℤ). Rounds z (signed t h) (unlike s t) (finiteWord (round binary32 (unlike s t) (X * down d) (Y * down e)))) (sym (signed_mul s false g (2 ^ 149) ∙ ap (λ (c : Bool). signed c (g * 2 ^ 149)) (like_self s)))
+          (λ _. subst (λ (c : Bool). Rounds (signed s g *ℤ pos one) (signed t h) (unlike s t) (cond c (Err ZeroDivisor) (finite_word (div binary32 (fin s m e) (fin t (suc n) d))))) (sym q)
+              (subst (λ (c : Bool). Rounds (signed s g *ℤ pos one) (signed t h) (unlike s t) (finite_word (cond c (cond (eqb m 0) nan (inf (unlike s t))) (round binary32 (unlike s t) (X * down d) (Y * down e))))) (sym (ne_eqb (suc n) 0 (λ z. omega arith)))
+              (subst (λ (z : ℤ). Rounds z (signed t h) (unlike s t) (finite_word (round binary32 (unlike s t) (X * down d) (Y * down e)))) (sym (signed_mul s false g (2 ^ 149) ∙ ap (λ (c : Bool). signed c (g * 2 ^ 149)) (like_self s)))
               (rounds (unlike s t) s t (X * down d) (Y * down e) (g * 2 ^ 149) h (mul-pos y (down_pos e)) (positive h some) size (unlike_twice s t))))),
         )
       where

@@ -7,7 +7,7 @@ use lib.Ieee.Order.{drop, kept}
 use Rattle.std.specs.Float.{float_is_finite}
 use Rattle.std.proofs.lemmas.Bool.{cases_lt, true≢false}
 use Rattle.kinds.specs.declared.fault.ArithmeticFault.TheVariants.{OutOfRange}
-use Rattle.kinds.specs.Single.{lawful, finiteWord}
+use Rattle.kinds.specs.Single.{lawful, finite_word}
 use Rattle.kind_laws.specs.Exact.{negative, magnitude, signed, units}
 use Rattle.kind_laws.specs.Rounding.{error, Nearest, Rounds, limit}
 use Rattle.kind_laws.proofs.Nearest.{apart, rounds_to_nearest, units_under}
@@ -78,7 +78,7 @@ nearest_word σ u P D r d e l near tie = record { is_lawful = l; nearest = neare
 
 -- the exact result ±A / C, which is P / D units, is rounded by `round`
 pub rounds : (s σ u : Bool) (A C P D : ℕ) → 0 < C → 0 < D → P * C ≡ A * 2 ^ 149 * D → unlike s u ≡ σ
-    → Rounds (signed σ P) (signed u D) s (finiteWord (round binary32 s A C))
+    → Rounds (signed σ P) (signed u D) s (finite_word (round binary32 s A C))
 rounds s σ u A C P D c d e k = go (float_is_finite (round binary32 s A C)) refl
   where
     N : ℕ

@@ -1,6 +1,6 @@
 -- Comparisons, constants and indexes of Single, in exact numbers.
 use Rattle.std.specs.Prelude.{◌≡◌, ℕ, ◌*◌, ◌<◌, Bool, true, false, T, ℤ, pos, ◌*ℤ◌, Some, None, Option, int_lt}
-use Rattle.kinds.specs.Arithmetic.{holds, constantWord}
+use Rattle.kinds.specs.Arithmetic.{holds, constant_word}
 use Rattle.kinds.specs.Single.{single, lawful}
 use Rattle.kind_laws.specs.Exact.{units, one}
 
@@ -28,7 +28,7 @@ abbrev pub OrderIsOfNumbers : Type 0
 OrderIsOfNumbers = (a b : ℕ) → T (lawful a) → T (lawful b) → single.less a b ≡ int_lt (units a) (units b)
 
 abbrev pub ConstantsAreExact : Type 0
-ConstantsAreExact = (z : ℤ) → Constant z (constantWord single z)
+ConstantsAreExact = (z : ℤ) → Constant z (constant_word single z)
 
 abbrev pub IndexesAreExact : Type 0
 IndexesAreExact = (w : ℕ) → T (lawful w) → Index w (single.index w)

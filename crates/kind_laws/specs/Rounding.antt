@@ -28,16 +28,16 @@ Rounds p d s (Err OutOfRange) = limit * unsigned_abs d ≤ unsigned_abs p
 Rounds p d s (Err ZeroDivisor) = ⊥
 
 -- the sign of a sum: its own, and where it is zero, minus only if both parts have it
-abbrev pub sumSign : ℤ → Bool → Bool → Bool
-sumSign (pos zero) s t = s && t
-sumSign (pos (suc n)) s t = false
-sumSign (negsuc n) s t = true
+abbrev pub sum_sign : ℤ → Bool → Bool → Bool
+sum_sign (pos zero) s t = s && t
+sum_sign (pos (suc n)) s t = false
+sum_sign (negsuc n) s t = true
 
 abbrev pub Sum : ℕ → ℕ → Result ℕ ArithmeticFault → Type 0
-Sum a b r = Rounds (units a +ℤ units b) (pos 1) (sumSign (units a +ℤ units b) (negative a) (negative b)) r
+Sum a b r = Rounds (units a +ℤ units b) (pos 1) (sum_sign (units a +ℤ units b) (negative a) (negative b)) r
 
 abbrev pub Difference : ℕ → ℕ → Result ℕ ArithmeticFault → Type 0
-Difference a b r = Rounds (units a -ℤ units b) (pos 1) (sumSign (units a -ℤ units b) (negative a) (not (negative b))) r
+Difference a b r = Rounds (units a -ℤ units b) (pos 1) (sum_sign (units a -ℤ units b) (negative a) (not (negative b))) r
 
 abbrev pub Product : ℕ → ℕ → Result ℕ ArithmeticFault → Type 0
 Product a b r = Rounds (units a *ℤ units b) (pos one) (unlike (negative a) (negative b)) r

@@ -26,8 +26,8 @@ abbrev pub holds : Arithmetic → ℤ → Bool
 holds k z = int_le k.least z && int_le z k.most
 
 -- the word of a constant, and none for any other whole number
-abbrev pub constantWord : Arithmetic → ℤ → Option ℕ
-constantWord k z = cond (holds k z) (Some (k.constant z)) None
+abbrev pub constant_word : Arithmetic → ℤ → Option ℕ
+constant_word k z = cond (holds k z) (Some (k.constant z)) None
 
 -- a result, if there is one, is lawful
 abbrev pub LawfulResult : Arithmetic → Result ℕ ArithmeticFault → Type 0

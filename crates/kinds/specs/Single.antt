@@ -27,12 +27,12 @@ abbrev pub number : ℕ → Float
 number w = from_bits binary32 w
 
 -- the word of a finite number; any other result is out of range
-abbrev pub finiteWord : Float → Result ℕ ArithmeticFault
-finiteWord x = cond (float_is_finite x) (Ok (to_bits binary32 x)) (Err OutOfRange)
+abbrev pub finite_word : Float → Result ℕ ArithmeticFault
+finite_word x = cond (float_is_finite x) (Ok (to_bits binary32 x)) (Err OutOfRange)
 
 -- zero and minus zero are both zero divisors
 abbrev pub quotient : ℕ → ℕ → Result ℕ ArithmeticFault
-quotient a b = cond (eq (number b) (number 0)) (Err ZeroDivisor) (finiteWord (div binary32 (number a) (number b)))
+quotient a b = cond (eq (number b) (number 0)) (Err ZeroDivisor) (finite_word (div binary32 (number a) (number b)))
 
 abbrev pub equal : ℕ → ℕ → Bool
 equal a b = eq (number a) (number b)
@@ -58,9 +58,9 @@ single = record {
   least = least;
   most = most;
   constant = constant;
-  sum = λ a b. finiteWord (add binary32 (number a) (number b));
-  difference = λ a b. finiteWord (sub binary32 (number a) (number b));
-  product = λ a b. finiteWord (mul binary32 (number a) (number b));
+  sum = λ a b. finite_word (add binary32 (number a) (number b));
+  difference = λ a b. finite_word (sub binary32 (number a) (number b));
+  product = λ a b. finite_word (mul binary32 (number a) (number b));
   quotient = quotient;
   equal = equal;
   less = λ a b. lt (number a) (number b);

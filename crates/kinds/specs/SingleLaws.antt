@@ -6,7 +6,7 @@ use Rattle.std.specs.Float.Ieee.{to_bits, of_int, add, sub, mul, div, eq}
 use Rattle.std.specs.Float.Ieee.Fits.{add-fits, sub-fits, mul-fits, div-fits}
 use Rattle.kinds.specs.declared.fault.ArithmeticFault.TheVariants.{ZeroDivisor}
 use Rattle.kinds.specs.Arithmetic.{Laws, LawfulResult, SmallIndex}
-use Rattle.kinds.specs.Single.{single, lawful, number, finiteWord, quotient, constant, whole, index}
+use Rattle.kinds.specs.Single.{single, lawful, number, finite_word, quotient, constant, whole, index}
 use Rattle.kinds.specs.Singles.{result_lawful, constant_lawful}
 
 small : (w : ℕ) → T (lawful w) → w < 4294967296
@@ -19,7 +19,7 @@ zero_is = refl
 quotient_lawful : (a b : ℕ) → LawfulResult single (quotient a b)
 quotient_lawful a b = go (eq (number b) (number 0))
   where
-    go : (z : Bool) → LawfulResult single (cond z (Err ZeroDivisor) (finiteWord (div binary32 (number a) (number b))))
+    go : (z : Bool) → LawfulResult single (cond z (Err ZeroDivisor) (finite_word (div binary32 (number a) (number b))))
     go true = tt
     go false = result_lawful (div binary32 (number a) (number b)) (div-fits binary32 (number a) (number b))
 

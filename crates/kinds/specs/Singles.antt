@@ -10,7 +10,7 @@ use Rattle.std.specs.Float.{float_is_finite, nan, inf, fin, binary32}
 use Rattle.std.proofs.lemmas.Bool.Decides.{nat_tests}
 use Rattle.kinds.specs.declared.fault.ArithmeticFault.TheVariants.{OutOfRange}
 use Rattle.kinds.specs.Arithmetic.{LawfulResult, holds}
-use Rattle.kinds.specs.Single.{single, exponent, lawful, number, finiteWord}
+use Rattle.kinds.specs.Single.{single, exponent, lawful, number, finite_word}
 
 odd_finite : (d : ℕ) (s : Bool) (q k l : ℕ) → float_is_finite (odd d s q k l) ≡ true
 unfolding odd float_is_finite
@@ -49,7 +49,7 @@ pub word_lawful : (x : Float) → T (fits binary32 x) → float_is_finite x ≡ 
 word_lawful x f h =
     subst T (sym (lawful_is (to_bits binary32 x) (to_bits-lt binary32 x f) ∙ ap float_is_finite (of_bits-to_bits binary32 x f) ∙ h)) tt
 
-pub result_lawful : (x : Float) → T (fits binary32 x) → LawfulResult single (finiteWord x)
+pub result_lawful : (x : Float) → T (fits binary32 x) → LawfulResult single (finite_word x)
 result_lawful x f = go (float_is_finite x) (λ h. word_lawful x f h)
   where
     go : (b : Bool) → (b ≡ true → T (lawful (to_bits binary32 x))) → LawfulResult single (cond b (Ok (to_bits binary32 x)) (Err OutOfRange))

@@ -1,6 +1,6 @@
 // What a number kind is: which words it takes, and what it does with them.
 ghost use Rattle.std.specs.Prelude.{◌≡◌};
-ghost use Rattle.kinds.specs.Arithmetic.{Arithmetic, Laws, constantWord};
+ghost use Rattle.kinds.specs.Arithmetic.{Arithmetic, Laws, constant_word};
 
 use crate::fault::ArithmeticFault;
 
@@ -30,7 +30,7 @@ pub trait NumberKind {
 
     // The word of a constant; `None` exactly outside `SMALLEST` to `LARGEST`.
     fn constant(n: i32) -> Option<u32>
-        ensures { result ≡ constantWord kind n };
+        ensures { result ≡ constant_word kind n };
 
     fn add(a: u32, b: u32) -> Result<u32, ArithmeticFault>
         ensures { result ≡ kind.sum a b };

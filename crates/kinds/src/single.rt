@@ -29,7 +29,7 @@ fn exponent(w: u32) -> u32
 
 // The word of a result, if it is finite.
 fn finite_word(x: f32) -> Result<u32, ArithmeticFault>
-    ensures { result ≡ SingleWords.finiteWord x }
+    ensures { result ≡ SingleWords.finite_word x }
 {
     if x.is_finite() {
         Ok(x.to_bits())

@@ -1,3 +1,4 @@
 // The copy rule, and the laws that hold of it.
 #![tactic(auto)]
+
 pub mod laws;

@@ -5,9 +5,9 @@ use Rattle.std.proofs.lemmas.Bool.{cases_eq}
 use Rattle.lines.specs.declared.records.Line.{Line}
 use Rattle.script.specs.Tree.{at_line, grow}
 
-getD_last : {A : Type 0} (xs : List A) (x d : A) → get_or (xs ++ (x ∷ [])) (length xs) d ≡ x
-getD_last [] x d = refl
-getD_last (y ∷ xs) x d = getD_last xs x d
+get_or_last : {A : Type 0} (xs : List A) (x d : A) → get_or (xs ++ (x ∷ [])) (length xs) d ≡ x
+get_or_last [] x d = refl
+get_or_last (y ∷ xs) x d = get_or_last xs x d
 
 module _ {A : Type 0} (step : ℕ → List A → Line → A) (L : ℕ → Line) where
   pub grow_length : (n : ℕ) → length (grow step L n) ≡ n
@@ -17,7 +17,7 @@ module _ {A : Type 0} (step : ℕ → List A → Line → A) (L : ℕ → Line) 
   pub grow_at : (d : A) (k m : ℕ) → m < k → get_or (grow step L k) m d ≡ at_line step L m
   grow_at d zero m h = absurd (omega arith)
   grow_at d (suc k) m h = elim (cases_eq m k) [
-    | inl e ↦ ap (λ i. get_or (grow step L (suc k)) i d) (e ∙ sym (grow_length k)) ∙ getD_last (grow step L k) (at_line step L k) d ∙ ap (at_line step L) (sym e)
+    | inl e ↦ ap (λ i. get_or (grow step L (suc k)) i d) (e ∙ sym (grow_length k)) ∙ get_or_last (grow step L k) (at_line step L k) d ∙ ap (at_line step L) (sym e)
     | inr e ↦ get_or-append (grow step L k) (at_line step L k ∷ []) d m (omega (arith, grow_length k)) ∙ grow_at d k m (omega arith)
   ]
 

@@ -1,3 +1,4 @@
 // A sheet: the reader that fills its records.
 #![tactic(auto)]
+
 pub mod reader;

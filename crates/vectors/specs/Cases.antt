@@ -32,5 +32,5 @@ finitely o b (Word w) = cond (infinite w) (Fault (cond (divides o && is_zero b) 
 finitely o b (Fault f) = Fault f
 finitely o b (Truth t) = Truth t
 
-abbrev pub finiteAnswer : Case → Case
-finiteAnswer c = record { operation = c.operation; a = c.a; b = c.b; wanted = finitely c.operation c.b c.wanted }
+abbrev pub finite_answer : Case → Case
+finite_answer c = record { operation = c.operation; a = c.a; b = c.b; wanted = finitely c.operation c.b c.wanted }

@@ -1,6 +1,6 @@
 // A case, and the line of text that spells it.
 ghost use Rattle.std.specs.Prelude.{◌≡◌};
-ghost use Rattle.vectors.specs.Cases.{finiteAnswer, truth};
+ghost use Rattle.vectors.specs.Cases.{finite_answer, truth};
 
 use crate::answer::{Answer, Operation};
 use kinds::ArithmeticFault;
@@ -97,7 +97,7 @@ impl Source {
 
 // A published case of binary32, as a kind without infinities has it.
 fn finite(case: Case) -> Case
-    ensures { result ≡ finiteAnswer case }
+    ensures { result ≡ finite_answer case }
 {
     let wanted = match case.wanted {
         Answer::Word(2139095040 | 4286578688) => {

@@ -1,5 +1,6 @@
 // Holds both number kinds to cases made elsewhere: says how many of each operation agree.
 #![tactic(auto)]
+
 mod answer;
 mod case;
 
