@@ -1,13 +1,12 @@
 -- What is around a line, one user at a time; and the procedures that declarations have.
-use Rattle.std.proofs.Common.{◌≡◌, ℕ, zero, suc, ◌+◌, ◌-◌, ◌<◌, ◌≤◌, Bool, true, false, cond, ◌&&◌, ◌||◌, eqb, ltb, List, [], ◌∷◌, ◌++◌, length, get_or, sym, refl, ap, ◌∙◌, ap₂, inl, inr, add-one, arith}
+use Rattle.std.proofs.Common.{◌≡◌, ℕ, zero, suc, ◌+◌, ◌-◌, ◌<◌, ◌≤◌, Bool, true, false, ◌&&◌, ◌||◌, eqb, ltb, List, [], ◌∷◌, ◌++◌, length, get_or, sym, refl, ap, ◌∙◌, ap₂, inl, inr, add-one, arith}
 use Rattle.std.proofs.lemmas.Bool.{both_ways, cases_lt, le-ltb, lt-ltb}
 use Rattle.lines.specs.declared.records.Line.{Line}
-use Rattle.lines.specs.declared.records.Line.TheVariants as Line
-use Rattle.script.specs.Tree.{at_line, grow, line}
+use Rattle.script.specs.Tree.{grow, line}
 use Rattle.script.specs.Fields.{fields, named_in}
 use Rattle.script.specs.Lists.{times}
 use Rattle.script.specs.Around.{Naming, around, fellows, fellows_by, handed, if_named, joins, naming, opens_array, opens_body, opens_simple, opens_system, silent, user, uses_array, uses_procedure, uses_simple}
-use Rattle.script.specs.Tests.{fellows_by_lines, procedures_at, procedures_by, taken_before, under}
+use Rattle.script.specs.Tests.{procedures_at, procedures_by, taken_before, under}
 use Rattle.script.proofs.Grow.{grow_at, grow_beyond}
 use Rattle.acceptance.specs.Naming.{stands}
 use Rattle.acceptance.proofs.Naming.{stands_times}

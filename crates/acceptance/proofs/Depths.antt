@@ -1,13 +1,12 @@
 -- The depth of the part at a line, from those at the lines that it names.
-use Rattle.std.proofs.Common.{◌≡◌, ℕ, suc, ◌<◌, ◌≤◌, min, max, Bool, true, false, cond, ◌&&◌, ltb, List, get_or, ℤ, Some, None, Option, sym, refl, ap, ◌∙◌, ap₂, inl, inr, arith}
+use Rattle.std.proofs.Common.{◌≡◌, ℕ, suc, min, max, Bool, true, false, cond, ◌&&◌, ltb, get_or, ℤ, Some, None, Option, sym, refl, ap, ◌∙◌, ap₂, inl, inr, arith}
 use Rattle.std.proofs.lemmas.Bool.{cases_lt, le-ltb, lt-ltb}
 use Rattle.lines.specs.declared.records.Line.{Line}
-use Rattle.lines.specs.declared.records.Line.TheVariants as Line
 use Rattle.lines.specs.declared.sorts.Operator.{Operator}
 use Rattle.lines.specs.declared.sorts.Relation.{Relation}
 use Rattle.lines.specs.Ranges.{given}
 use Rattle.script.specs.Script.{Condition, Declarations, Expression, Place, Statement, word_of}
-use Rattle.script.specs.Tree.{Part, as_condition, as_declarations, as_expression, as_place, as_statement, at_line, condition, declarations, expression, grow, grown, other, part, place, statement}
+use Rattle.script.specs.Tree.{Part, as_condition, as_declarations, as_expression, as_place, as_statement, condition, declarations, expression, grow, grown, other, part, place, statement}
 use Rattle.script.specs.Depth.{condition_depth, deepest_allowed, depth, expression_depth, place_depth}
 use Rattle.script.proofs.Grow.{grow_at, grow_beyond}
 use Rattle.acceptance.specs.Depths.{above_one, above_three, above_two, as_condition_deep, as_expression_deep, counted}

@@ -1,8 +1,8 @@
 -- Names in what is around a line.
-use Rattle.std.proofs.Common.{◌≡◌, ℕ, zero, suc, ◌+◌, ◌-◌, ◌<◌, ◌≤◌, Bool, true, false, ◌&&◌, ◌||◌, eqb, ltb, List, [], ◌∷◌, ◌++◌, length, get_or, sym, refl, ap, ◌∙◌, subst, ap₂, inl, inr, arith}
+use Rattle.std.proofs.Common.{◌≡◌, ℕ, zero, suc, ◌+◌, ◌<◌, ◌≤◌, ◌&&◌, ◌||◌, eqb, List, [], ◌∷◌, get_or, sym, refl, subst, ap₂, inl, inr, arith}
 use Rattle.std.proofs.lemmas.Bool.{cases_lt, lt-ltb}
 use Rattle.lines.specs.declared.records.Line.{Line}
-use Rattle.script.specs.Tree.{at_line, grow, line}
+use Rattle.script.specs.Tree.{grow}
 use Rattle.script.specs.Lists.{Each}
 use Rattle.script.specs.Around.{Naming, joins, naming, opens_array, opens_body, opens_simple, opens_system, silent, uses_array, uses_procedure, uses_simple}
 use Rattle.script.specs.Tests.{procedures_at, procedures_by, taken_before, under}

@@ -1,6 +1,6 @@
 -- Whether a line is named, and the counts that the tests take.
 use Rattle.std.proofs.Common.{◌≡◌, ℕ, zero, suc, ◌+◌, ◌<◌, Bool, true, false, not, ◌||◌, eqb, ltb, List, [], ◌∷◌, ◌++◌, sym, refl, ap, ◌∙◌, ap₂, inl, inr, add-one, arith}
-use Rattle.std.proofs.lemmas.Bool.{cases_eq, eq-eqb, le-ltb, lt-ltb, ne_eqb, or_right}
+use Rattle.std.proofs.lemmas.Bool.{cases_eq, lt-ltb, ne_eqb, or_right}
 use Rattle.lines.specs.declared.records.Line.{Line}
 use Rattle.script.specs.Fields.{fields, named_in}
 use Rattle.script.specs.Lists.{one, times}

@@ -1,5 +1,5 @@
 -- The lowest line that a test finds.
-use Rattle.std.proofs.Common.{◌≡◌, ℕ, zero, suc, ◌+◌, ◌<◌, ◌≤◌, Bool, true, false, ◌||◌, Some, None, sym, refl, ap, ◌∙◌, ap₂, inl, inr, add-one, arith}
+use Rattle.std.proofs.Common.{◌≡◌, ℕ, zero, suc, ◌+◌, ◌<◌, Bool, true, false, ◌||◌, Some, None, sym, ap, ◌∙◌, ap₂, inl, inr, add-one, arith}
 use Rattle.std.proofs.lemmas.Bool.{cases_eq, or_right}
 use Rattle.script.specs.Tests.{any_below, lowest, or_here}
 

@@ -1,5 +1,5 @@
 -- What the program's classes and fields of lines stand for.
-use Rattle.std.specs.Prelude.{ℕ, List, [], ◌∷◌}
+use Rattle.std.specs.Prelude.{List, [], ◌∷◌}
 use Rattle.acceptance.specs.declared.classes.Class.{Class}
 use Rattle.acceptance.specs.declared.classes.Class.TheVariants.{Nothing, Place, Expression, Condition, Statement, Declarations}
 use Rattle.acceptance.specs.declared.classes.LineField.{LineField}

@@ -1,5 +1,5 @@
 -- The depths that the program counts: of the part at a line, where it is an expression or a condition, and no further than 255.
-use Rattle.std.specs.Prelude.{ℕ, suc, min, max, Bool, Some, None, Option}
+use Rattle.std.specs.Prelude.{ℕ, suc, min, max, Some, None, Option}
 use Rattle.lines.specs.Ranges.{given}
 use Rattle.script.specs.Tree.{Part, condition, declarations, expression, other, place, statement}
 use Rattle.script.specs.Depth.{condition_depth, expression_depth, place_depth}

@@ -5,7 +5,6 @@ use Rattle.lines.specs.declared.sorts.Operator.TheVariants.{Plus, Minus, Times, 
 use Rattle.lines.specs.declared.sorts.Relation.{Relation}
 use Rattle.lines.specs.declared.sorts.Relation.TheVariants.{Equal, Less}
 use Rattle.lines.specs.declared.records.Line.{Line}
-use Rattle.lines.specs.declared.records.Line.TheVariants as Line
 use Rattle.lines.specs.declared.records.Record.{Record}
 
 -- + - * /

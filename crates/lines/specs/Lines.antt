@@ -9,9 +9,7 @@ use Rattle.lines.specs.declared.sorts.StatementSort.TheVariants as Act
 use Rattle.lines.specs.declared.sorts.DeclarationSort.{DeclarationSort}
 use Rattle.lines.specs.declared.sorts.DeclarationSort.TheVariants as Declares
 use Rattle.lines.specs.declared.sorts.Sort.{Sort}
-use Rattle.lines.specs.declared.sorts.Sort.TheVariants as Sort
 use Rattle.lines.specs.declared.records.Line.{Line}
-use Rattle.lines.specs.declared.records.Line.TheVariants as Line
 use Rattle.lines.specs.Ranges.{given, no_fields, a_name, a_constant, one_line, two_lines, three_lines, name_and_length, name_and_line, name_and_two_lines, name_length_line, three_names_and_line}
 
 abbrev pub expression_line : ExpressionSort → List ℕ → List ℕ → List ℕ → List ℕ → Option Line

@@ -1,5 +1,5 @@
 -- The cases, computed.
-use Rattle.std.proofs.Common.{◌≡◌, ℕ, List, [], ◌∷◌, length, pos, sym, refl, ap, subst}
+use Rattle.std.proofs.Common.{◌≡◌, ℕ, List, [], ◌∷◌, length, pos, refl, ap, subst}
 use Rattle.lines.specs.declared.records.Line.{Line}
 use Rattle.kinds.specs.Whole.{whole}
 use Rattle.kinds.specs.Single.{single}
@@ -12,7 +12,7 @@ use Rattle.rule.specs.Closing.{Closing, Closes, program_of}
 use Rattle.rule.proofs.Count.{closing, closes_by}
 use Rattle.published.specs.Double.{double}
 use Rattle.published.specs.Cases.{Published}
-use Rattle.published.specs.Scopes.{Finishes, ToldApart, through_formal, own_locals, static_scope, fixed_index, alias, shadowed_procedure}
+use Rattle.published.specs.Scopes.{ToldApart, through_formal, own_locals, static_scope, fixed_index, alias, shadowed_procedure}
 
 -- the statement that a part is
 abbrev the_statement : Part → Statement

@@ -1,7 +1,6 @@
 -- The published cases, as one table.
-use Rattle.std.specs.Prelude.{◌≡◌, ℕ, true, false, List, [], ◌∷◌, pos, negsuc, None, Ok, Err}
+use Rattle.std.specs.Prelude.{◌≡◌, ℕ, true, false, [], ◌∷◌, pos, negsuc, None, Ok, Err}
 use Rattle.kinds.specs.declared.fault.ArithmeticFault.TheVariants.{OutOfRange}
-use Rattle.kinds.specs.Arithmetic.{Arithmetic}
 use Rattle.kinds.specs.Whole.{whole, word}
 use Rattle.kinds.specs.Single.{single}
 use Rattle.sheet.specs.Reading.{outcome}

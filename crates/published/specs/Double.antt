@@ -4,7 +4,6 @@ use Prim.Native.String.{String}
 use Rattle.lines.specs.declared.sorts.Operator.TheVariants.{Plus, Minus}
 use Rattle.lines.specs.declared.sorts.Relation.TheVariants.{Equal}
 use Rattle.lines.specs.declared.records.Line.{Line}
-use Rattle.lines.specs.declared.records.Line.TheVariants as Line
 
 -- the bytes of a text of these lines, each closed by byte 10
 abbrev pub text_of : List String → List ℕ

@@ -1,10 +1,9 @@
 -- Small scripts that tell wrong rules apart. Each is a script for whole numbers, and closes so over 64 cells.
-use Rattle.std.specs.Prelude.{◌≡◌, ℕ, List, [], ◌∷◌, pos}
+use Rattle.std.specs.Prelude.{ℕ, List, [], ◌∷◌, pos}
 use Rattle.kinds.specs.Whole.{whole}
 use Rattle.lines.specs.declared.sorts.Operator.TheVariants.{Plus, Minus, Times}
 use Rattle.lines.specs.declared.sorts.Relation.TheVariants.{Equal}
 use Rattle.lines.specs.declared.records.Line.{Line}
-use Rattle.lines.specs.declared.records.Line.TheVariants as Line
 use Rattle.script.specs.IsScript.{IsScript}
 use Rattle.rule.specs.Rewriting.{finished}
 use Rattle.rule.specs.Closing.{Closes, program_of}

@@ -2,7 +2,7 @@
 use Rattle.std.proofs.Common.{◌≡◌, ℕ, zero, suc, ◌≤◌, List, [], ◌∷◌, ◌++◌, sym, refl, ap, ◌∙◌, append-nil, le_trans, le_refl, le_of_suc-le-suc, not-suc-le-zero, arith}
 use Rattle.kinds.specs.Arithmetic.{Arithmetic}
 use Rattle.rule.specs.Work.{Work}
-use Rattle.rule.specs.Rewriting.{Pending, Situation, Begun, goes, fails, begins, Ending, finished, stopped, fault, Halt, rewrite, out_of_allowance}
+use Rattle.rule.specs.Rewriting.{Pending, Situation, Begun, goes, fails, begins, stopped, fault, rewrite}
 use Rattle.rule.specs.CopyRule.{Outcome, through, halts, Runs, none_left, stops, faulted, inner_halts, then_runs}
 use Rattle.rule.specs.Laws.{Agrees, halt_of}
 

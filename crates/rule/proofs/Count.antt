@@ -1,10 +1,10 @@
 -- The copy rule's own count: a run that is not stopped stays as it is with more allowance.
-use Rattle.std.proofs.Common.{◌≡◌, ℕ, zero, suc, ◌+◌, ◌-◌, ◌<◌, ◌≤◌, Bool, true, false, not, List, [], ◌∷◌, ◌++◌, take, sym, refl, ap, ◌∙◌, subst, le_refl, suc-add, zero-add, arith}
+use Rattle.std.proofs.Common.{◌≡◌, ℕ, zero, suc, ◌+◌, ◌-◌, ◌<◌, ◌≤◌, Bool, true, false, not, List, [], ◌∷◌, ◌++◌, take, sym, refl, ap, ◌∙◌, subst, le_refl, suc-add, arith}
 use native.Mathlib.Decide.{dec_lt}
 use Rattle.kinds.specs.Arithmetic.{Arithmetic}
 use Rattle.rule.specs.Work.{Work}
 use Rattle.rule.specs.Rewriting.{Pending, Situation, Begun, goes, fails, begins, Ending, finished, stopped, fault, Halt, rewrite}
-use Rattle.rule.specs.CopyRule.{Outcome, through, halts, Runs}
+use Rattle.rule.specs.CopyRule.{Outcome, through, halts}
 use Rattle.rule.specs.Laws.{halt_of}
 use Rattle.rule.specs.Closing.{Program, Closing, own_fetch, start, situation, closing_of, Closes, Stopped, OwnCount, IsOver}
 use Rattle.rule.specs.Count.{Counted, Stays}

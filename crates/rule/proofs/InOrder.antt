@@ -1,8 +1,8 @@
 -- The names of a told-apart text are in order.
-use Rattle.std.proofs.Common.{◌≡◌, ℕ, zero, suc, ◌+◌, ◌*◌, ◌<◌, ◌≤◌, Bool, true, false, T, eqb, leb, ◌⊎◌, List, [], ◌∷◌, ◌++◌, length, sym, refl, ap, ◌∙◌, subst, inl, inr, le_trans, le_refl, arith, leb→le}
+use Rattle.std.proofs.Common.{◌≡◌, ℕ, zero, suc, ◌+◌, ◌<◌, ◌≤◌, Bool, true, false, T, eqb, leb, ◌⊎◌, List, [], ◌∷◌, ◌++◌, length, sym, refl, ap, ◌∙◌, subst, inl, inr, arith, leb→le}
 use Rattle.script.specs.Script.{Place, simple, element, fixed, Expression, constant, word_of, work, choose, Condition, truth, compared, negated, implies}
 use Rattle.script.specs.Script.{Statement, assign, both, branch, call, new_simple, new_array, system, Declarations, procedure, joined, only}
-use Rattle.script.specs.Names.{Names, Standing, nothing, cell, cells, code}
+use Rattle.script.specs.Names.{Names, Standing, nothing, cell, cells}
 use Rattle.script.specs.Apart.{Globals, global_of, globals_from, globals_of, heads, past_globals, no_globals, Scope, found, with_simple, with_array, with_procs, own, own_value, own_variable, first_fresh, place_apart, expression_apart, condition_apart, statement_apart, declarations_apart}
 use Rattle.rule.specs.Fine.{Kind, unused, a_simple, an_array, a_procedure, beyond, Kinds, with_procedures, with_formals, Unused, FinePlace, FineExpression, FineCondition, Fine, FineDeclarations, start_kind, start_kinds}
 use Rattle.lines.specs.declared.records.Line.{Line}

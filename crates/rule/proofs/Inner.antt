@@ -1,5 +1,5 @@
 -- A script's runs depend on the globals' cells alone.
-use Rattle.std.proofs.Common.{◌≡◌, ℕ, zero, suc, ◌+◌, ◌<◌, ◌≤◌, List, [], ◌∷◌, sym, subst, le_refl, arith}
+use Rattle.std.proofs.Common.{ℕ, zero, suc, ◌+◌, List, [], ◌∷◌, subst, le_refl, arith}
 use Rattle.script.specs.Names.{cell, cells}
 use Rattle.script.specs.Apart.{Globals, global_of, globals_from, globals_of, heads, no_globals, own, first_fresh, statement_apart}
 use Rattle.rule.specs.Rewriting.{Halt, rewrite}

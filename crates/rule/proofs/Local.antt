@@ -1,12 +1,12 @@
 -- Cells that are not in use do not matter.
-use Rattle.std.proofs.Common.{◌≡◌, ℕ, zero, suc, ◌+◌, ◌<◌, ◌≤◌, Bool, true, false, not, T, eqb, ltb, leb, List, [], ◌∷◌, ◌++◌, length, get_or, take, set, sym, refl, ap, ◌∙◌, subst, ap₂, le_trans, le_refl, add-zero, add-suc, suc-add, add-one, arith, ltb→lt, length-set}
+use Rattle.std.proofs.Common.{◌≡◌, ℕ, zero, suc, ◌+◌, ◌<◌, ◌≤◌, Bool, true, false, not, T, eqb, ltb, leb, List, [], ◌∷◌, ◌++◌, length, get_or, take, set, sym, refl, ap, ◌∙◌, subst, le_trans, le_refl, add-zero, add-suc, suc-add, add-one, arith, ltb→lt}
 use Rattle.kinds.specs.Arithmetic.{Arithmetic}
 use Rattle.rule.specs.Work.{Work, gives, faults, next}
 use Rattle.script.specs.Script.{Place, simple, element, fixed, Expression, constant, word_of, work, choose, Condition, truth, compared, negated, implies}
 use Rattle.script.specs.Script.{Statement, assign, both, branch, call, new_simple, new_array, system, Declarations, procedure, joined, only}
 use Rattle.script.specs.Names.{Names, Standing, nothing, cell, cells, code}
 use Rattle.rule.specs.Values.{cell_of, element_of, within, indexed, material, operate, compare, cell_at, value, holds}
-use Rattle.rule.specs.Rewriting.{cleared, Ending, finished, stopped, fault, Halt}
+use Rattle.rule.specs.Rewriting.{cleared, Ending, finished, stopped, fault}
 use Rattle.rule.specs.Machine.{Env, outside, simple_in, array_in, system_in, Found, unknown, closure, among, procedure_at, standing, Item, Moved, moves, refuses, tried, deeper, enters, move, machine}
 use Rattle.rule.specs.Closing.{own_fetch}
 use Rattle.rule.specs.Local.{Sits, Bounded, Orderly, Agree, SameHalt, Local}

@@ -1,18 +1,18 @@
 -- The machine and the copy rule begin matching statements in step: the same fault, or matching statements to be run next and one store.
-use Rattle.std.proofs.Common.{◌≡◌, ℕ, zero, suc, ◌+◌, ◌<◌, ◌≤◌, Bool, true, false, not, eqb, ltb, leb, List, [], ◌∷◌, ◌++◌, set, sym, refl, ap, ◌∙◌, subst, subst₂, le_trans, le_refl, arith}
+use Rattle.std.proofs.Common.{◌≡◌, ℕ, ◌+◌, ◌<◌, ◌≤◌, Bool, true, false, not, ltb, leb, List, [], ◌∷◌, set, sym, refl, ap, ◌∙◌, subst, subst₂, le_trans, le_refl, arith}
 use Rattle.kinds.specs.Arithmetic.{Arithmetic}
 use Rattle.rule.specs.Work.{Work, gives, faults, next}
 use Rattle.script.specs.Script.{Place, simple, element, fixed, Expression, constant, word_of, work, choose, Condition, truth, compared, negated, implies}
 use Rattle.script.specs.Script.{Statement, assign, both, branch, call, new_simple, new_array, system, Declarations, procedure, joined}
 use Rattle.script.specs.Script.{Replacement, only, for_simple, for_array, in_place, in_expression, in_condition, in_statement, in_declarations}
-use Rattle.script.specs.Names.{Names, Standing, nothing, cell, cells, code}
+use Rattle.script.specs.Names.{Names, Standing, cell, cells, code}
 use Rattle.rule.specs.Values.{compare, cell_of, element_of, indexed, material, operate, cell_at, value, holds}
 use Rattle.rule.specs.Rewriting.{Pending, Situation, Begun, goes, fails, worked, entered, counted, renamed, known, cleared, settled, copied, begin}
-use Rattle.rule.specs.Machine.{Env, outside, simple_in, array_in, system_in, Found, unknown, closure, among, procedure_at, standing, Item, Moved, moves, refuses, tried, deeper, enters, move}
-use Rattle.rule.specs.Fine.{Kind, unused, a_simple, an_array, a_procedure, beyond, Kinds, FinePlace, FineExpression, FineCondition, Fine, FineDeclarations}
+use Rattle.rule.specs.Machine.{Found, procedure_at, standing, Item, Moved, moves, refuses, tried, deeper, enters, move}
+use Rattle.rule.specs.Fine.{unused, a_simple, an_array, a_procedure, Kinds, FinePlace, FineExpression, FineCondition, Fine}
 use Rattle.rule.proofs.Compose.{after, after_statement, differ, here, there}
-use Rattle.rule.proofs.Matching.{Joint, at_outside, with_simple, with_array, with_system, env_of, put_for, procs_put, kinds_of, cell_here, Coded, Outer, Settled, Good, Kept, Starts}
-use Rattle.rule.proofs.Matching.{SimpleHere, ArrayHere, ProcHere, simple_here, array_here, proc_here, settled_on, cell_on, coded_on, good_on, unlike}
+use Rattle.rule.proofs.Matching.{Joint, with_simple, with_array, with_system, env_of, put_for, procs_put, kinds_of, cell_here, Coded, Settled, Good, Kept, Starts}
+use Rattle.rule.proofs.Matching.{SimpleHere, ProcHere, simple_here, array_here, proc_here, settled_on, cell_on, coded_on, good_on, unlike}
 
 module _ (K : Arithmetic) (E D : Names) (θ : Replacement) (κ : Kinds) (fetch : ℕ → Work ℕ)
     (hs : (z : ℕ) → κ z ≡ a_simple → cell_at K E fetch (θ.place z) ≡ cell_of (D z)) (ha : (z : ℕ) → κ z ≡ an_array → E (θ.array z) ≡ D z) where

@@ -1,15 +1,14 @@
 -- A machine's environment and the copy rule's replacement, grown side by side.
-use Rattle.std.proofs.Common.{◌≡◌, ℕ, zero, suc, ◌+◌, ◌<◌, ◌≤◌, Bool, true, false, T, eqb, leb, ◌⊎◌, sym, refl, ap, ◌∙◌, subst, subst₂, inl, inr, le_trans, le_refl, arith, le→leb}
-use Rattle.kinds.specs.Arithmetic.{Arithmetic}
-use Rattle.rule.specs.Work.{Work, gives, faults, next}
-use Rattle.script.specs.Script.{Place, simple, element, fixed, Expression, Condition, Statement, Declarations, procedure, joined}
-use Rattle.script.specs.Script.{Replacement, only, for_simple, for_array, in_place, in_expression, in_condition, in_statement, in_declarations}
+use Rattle.std.proofs.Common.{◌≡◌, ℕ, ◌+◌, ◌<◌, ◌≤◌, Bool, true, false, T, eqb, leb, ◌⊎◌, sym, refl, ap, ◌∙◌, subst, subst₂, inl, inr, le_refl, arith, le→leb}
+use Rattle.rule.specs.Work.{Work, gives, faults}
+use Rattle.script.specs.Script.{Place, simple, element, fixed, Statement, Declarations, procedure, joined}
+use Rattle.script.specs.Script.{Replacement, only, for_simple, for_array, in_place, in_statement}
 use Rattle.script.specs.Names.{Names, Standing, nothing, cell, cells, code}
-use Rattle.rule.specs.Values.{cell_of, element_of, cell_at}
-use Rattle.rule.specs.Rewriting.{counted, renamed, known}
-use Rattle.rule.specs.Machine.{Env, outside, simple_in, array_in, system_in, Found, unknown, closure, among, procedure_at, standing}
+use Rattle.rule.specs.Values.{cell_of, element_of}
+use Rattle.rule.specs.Rewriting.{counted, renamed}
+use Rattle.rule.specs.Machine.{Env, outside, simple_in, array_in, system_in, Found, closure, among, procedure_at, standing}
 use Rattle.rule.specs.Fine.{Kind, unused, a_simple, an_array, a_procedure, beyond, Kinds, with_procedures, with_formals, Unused, Fine, FineDeclarations, start_kind, start_kinds}
-use Rattle.rule.proofs.Compose.{after, keeps, after_statement, same_or_not, differ, here, there}
+use Rattle.rule.proofs.Compose.{after, keeps, same_or_not, differ, here, there}
 
 -- a simple variable with its cell, and the place that the copy rule puts for it; an array with its cells, and the name put for it;
 -- a system, and the first of the names put for its procedures

@@ -3,9 +3,9 @@ use Rattle.std.proofs.Common.{◌≡◌, ℕ, zero, suc, ◌+◌, List, [], ◌�
 use Rattle.kinds.specs.Arithmetic.{Arithmetic}
 use Rattle.script.specs.Names.{Names}
 use Rattle.rule.specs.Work.{Work}
-use Rattle.rule.specs.Rewriting.{Pending, Situation, Begun, goes, fails, begins, rewrite, finished, stopped, fault, Halt}
+use Rattle.rule.specs.Rewriting.{Pending, Situation, Begun, goes, fails, begins, rewrite, finished, fault, Halt}
 use Rattle.rule.specs.Machine.{Item, Moved, moves, refuses, move, machine}
-use Rattle.rule.specs.Resume.{Step, goes_to, fails_at, Reached, going, ended, advance, resume, halted, rule_step, machine_step, Resumes}
+use Rattle.rule.specs.Resume.{Step, goes_to, fails_at, Reached, ended, advance, resume, halted, rule_step, machine_step, Resumes}
 
 module _ {I S : Type 0} (step : I → S → Step I S) where
   abbrev on : ℕ → List I → S → Step I S → Reached I S

@@ -1,14 +1,14 @@
 -- The machine's runs end as the copy rule's do.
-use Rattle.std.proofs.Common.{◌≡◌, ℕ, zero, suc, ◌+◌, ◌<◌, ◌≤◌, List, [], ◌∷◌, ◌++◌, sym, refl, ap, ◌∙◌, subst, le_trans, le_refl, arith}
+use Rattle.std.proofs.Common.{◌≡◌, ℕ, zero, suc, List, [], ◌∷◌, ◌++◌, sym, refl, ap, ◌∙◌, le_trans, le_refl}
 use Rattle.kinds.specs.Arithmetic.{Arithmetic}
 use Rattle.rule.specs.Work.{Work}
-use Rattle.script.specs.Script.{Statement, in_statement}
+use Rattle.script.specs.Script.{Statement}
 use Rattle.script.specs.Names.{Names}
-use Rattle.rule.specs.Rewriting.{Pending, Situation, Begun, goes, fails, begin, begins, Ending, fault, Halt, rewrite}
-use Rattle.rule.specs.Machine.{Env, outside, Item, Moved, moves, refuses, move, machine}
-use Rattle.rule.specs.Fine.{Kinds, Fine, start_kinds, MachineAgrees}
+use Rattle.rule.specs.Rewriting.{Pending, Situation, Begun, goes, fails, begins, fault, Halt, rewrite}
+use Rattle.rule.specs.Machine.{Item, Moved, moves, refuses, move, machine}
+use Rattle.rule.specs.Fine.{Kinds, start_kinds, MachineAgrees}
 use Rattle.rule.proofs.Compose.{kept_statement}
-use Rattle.rule.proofs.Matching.{Joint, at_outside, Kept, Starts, starts, good_on, put_for, env_of}
+use Rattle.rule.proofs.Matching.{at_outside, Kept, Starts, starts, good_on}
 use Rattle.rule.proofs.Lockstep.{Task, copy_of, item_of, copies, items, Proper, Grows, Lock, both_fail, both_go, lockstep}
 
 copies_append : (ts us : List Task) → copies (ts ++ us) ≡ copies ts ++ copies us

@@ -2,7 +2,7 @@
 use Rattle.std.specs.Prelude.{◌≡◌, ℕ, zero, suc, List, [], ◌∷◌}
 use Rattle.kinds.specs.Arithmetic.{Arithmetic}
 use Rattle.rule.specs.Work.{Work}
-use Rattle.rule.specs.Rewriting.{Pending, Situation, Begun, goes, fails, begins, Ending, finished, stopped, fault, Halt}
+use Rattle.rule.specs.Rewriting.{Pending, Situation, goes, fails, begins, Ending, stopped, fault}
 
 -- what running some statements comes to: through to their end with this allowance left, or the whole run halts
 pub data Outcome : Type 0 where

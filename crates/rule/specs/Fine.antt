@@ -5,8 +5,8 @@ use Rattle.rule.specs.Work.{Work}
 use Rattle.script.specs.Script.{Place, simple, element, fixed, Expression, constant, word_of, work, choose, Condition, truth, compared, negated, implies}
 use Rattle.script.specs.Script.{Statement, assign, both, branch, call, new_simple, new_array, system, Declarations, procedure, joined, only}
 use Rattle.script.specs.Names.{Names, Standing, nothing, cell, cells, code}
-use Rattle.rule.specs.Rewriting.{Pending, Situation, rewrite}
-use Rattle.rule.specs.Machine.{Env, outside, machine}
+use Rattle.rule.specs.Rewriting.{Situation, rewrite}
+use Rattle.rule.specs.Machine.{outside, machine}
 
 -- what a name is at a place of the text: to be declared further in, a variable, an array or a procedure of the declarations around, or beyond the text
 pub data Kind : Type 0 where

@@ -1,8 +1,8 @@
 -- What the copy rule gives is one thing, and the rewriting of the text still to be run gives it.
-use Rattle.std.specs.Prelude.{◌≡◌, ℕ, ◌≤◌, List, []}
+use Rattle.std.specs.Prelude.{◌≡◌, ℕ, List}
 use Rattle.kinds.specs.Arithmetic.{Arithmetic}
 use Rattle.rule.specs.Work.{Work}
-use Rattle.rule.specs.Rewriting.{Pending, Situation, Ending, finished, Halt, rewrite}
+use Rattle.rule.specs.Rewriting.{Pending, Situation, finished, Halt, rewrite}
 use Rattle.rule.specs.CopyRule.{Outcome, through, halts, Runs}
 
 abbrev pub halt_of : Outcome → Halt

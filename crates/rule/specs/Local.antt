@@ -1,12 +1,11 @@
 -- Cells that are not in use do not matter: the machine's runs from stores that agree on the cells in use end alike.
 use Rattle.std.specs.Prelude.{◌≡◌, ℕ, ◌+◌, ◌<◌, ◌≤◌, List, [], ◌∷◌, length, take, ℤ}
 use Rattle.kinds.specs.Arithmetic.{Arithmetic}
-use Rattle.rule.specs.Work.{Work}
 use Rattle.script.specs.Names.{Names, Standing, nothing, cell, cells, code}
 use Rattle.rule.specs.Rewriting.{Halt}
 use Rattle.rule.specs.Machine.{Env, outside, simple_in, array_in, system_in, Item, machine}
 use Rattle.lines.specs.declared.records.Line.{Line}
-use Rattle.script.specs.Apart.{globals_of, statement_apart, first_fresh}
+use Rattle.script.specs.Apart.{globals_of, first_fresh}
 use Rattle.script.specs.IsScript.{IsScript}
 use Rattle.rule.specs.Closing.{own_fetch, program_of, start}
 use Rattle.rule.specs.Rewriting.{rewrite}

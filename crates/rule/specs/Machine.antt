@@ -1,12 +1,12 @@
 -- A machine that runs the told-apart text as it stands: it keeps addresses and environments, and never replaces text.
-use Rattle.std.specs.Prelude.{ℕ, zero, suc, ◌+◌, Bool, true, false, List, [], ◌∷◌, ◌++◌, nat_le, nat_lt, slice_set}
+use Rattle.std.specs.Prelude.{ℕ, zero, suc, ◌+◌, true, false, List, [], ◌∷◌, ◌++◌, nat_le, nat_lt, slice_set}
 use Rattle.kinds.specs.Arithmetic.{Arithmetic}
 use Rattle.rule.specs.Work.{Work, gives, faults}
-use Rattle.script.specs.Script.{Place, Expression, Condition, Statement, assign, both, branch, call, new_simple, new_array, system}
+use Rattle.script.specs.Script.{Statement, assign, both, branch, call, new_simple, new_array, system}
 use Rattle.script.specs.Script.{Declarations, procedure, joined, only}
-use Rattle.script.specs.Names.{Names, Standing, cell, cells}
+use Rattle.script.specs.Names.{Names, cell, cells}
 use Rattle.rule.specs.Values.{value, cell_at, holds}
-use Rattle.rule.specs.Rewriting.{cleared, Ending, finished, stopped, fault, Halt}
+use Rattle.rule.specs.Rewriting.{cleared, finished, stopped, fault, Halt}
 
 -- the declarations entered around a statement, the innermost first. A simple variable has its cell (a variable formal the cell that it
 -- was called with), an array its first cell and its length; a system's procedures have the environment that ends in that very system.

@@ -3,8 +3,8 @@ use Rattle.std.specs.Prelude.{◌≡◌, ℕ, zero, suc, ◌+◌, List, [], ◌�
 use Rattle.kinds.specs.Arithmetic.{Arithmetic}
 use Rattle.script.specs.Names.{Names}
 use Rattle.rule.specs.Work.{Work}
-use Rattle.rule.specs.Rewriting.{Pending, Situation, Begun, goes, fails, begins, rewrite, Ending, finished, stopped, fault, Halt}
-use Rattle.rule.specs.Machine.{Item, Moved, moves, refuses, move, machine}
+use Rattle.rule.specs.Rewriting.{Pending, Situation, goes, fails, begins, rewrite, Ending, finished, stopped, fault, Halt}
+use Rattle.rule.specs.Machine.{Item, moves, refuses, move, machine}
 
 -- what beginning one statement gives: statements to be run next, with the state, or a fault with its line
 pub data Step (I S : Type 0) : Type 0 where

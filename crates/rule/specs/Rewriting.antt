@@ -1,8 +1,8 @@
 -- The copy rule, one begun statement at a time: what beginning a statement asks for, and the text that is still to be run.
-use Rattle.std.specs.Prelude.{ℕ, zero, suc, ◌+◌, Bool, true, false, List, [], ◌∷◌, ◌++◌, set, nat_le, nat_lt, slice_set}
+use Rattle.std.specs.Prelude.{ℕ, zero, suc, ◌+◌, true, false, List, [], ◌∷◌, ◌++◌, nat_le, nat_lt, slice_set}
 use Rattle.kinds.specs.Arithmetic.{Arithmetic}
 use Rattle.rule.specs.Work.{Work, gives, faults, next}
-use Rattle.script.specs.Script.{Place, simple, element, fixed, Expression, Condition, Statement, assign, both, branch, call, new_simple, new_array, system}
+use Rattle.script.specs.Script.{Place, simple, element, fixed, Statement, assign, both, branch, call, new_simple, new_array, system}
 use Rattle.script.specs.Script.{Declarations, procedure, joined, Replacement, only, for_simple, for_array, in_statement}
 use Rattle.script.specs.Names.{Names, Standing, nothing, cell, cells, code}
 use Rattle.rule.specs.Values.{cell_at, value, holds, indexed, element_of}

@@ -8,7 +8,7 @@ use Rattle.lines.specs.declared.sorts.Relation.{Relation}
 use Rattle.lines.specs.declared.sorts.Relation.TheVariants.{Equal, Less}
 use Rattle.script.specs.Names.{Names, Standing, nothing, cell, cells, code}
 use Rattle.script.specs.Script.{Place, simple, element, fixed, Expression, constant, word_of, work, choose}
-use Rattle.script.specs.Script.{Condition, truth, compared, negated, implies, Statement}
+use Rattle.script.specs.Script.{Condition, truth, compared, negated, implies}
 
 -- the cell of a simple variable (fault 0 where a name stands for something else, which no accepted script has)
 abbrev pub cell_of : Standing → Work ℕ

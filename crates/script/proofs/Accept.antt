@@ -3,7 +3,6 @@ use Rattle.std.proofs.Common.{◌≡◌, ℕ, zero, suc, ◌<◌, ◌≤◌, Boo
 use lib.Signed.{le_z}
 use Rattle.std.proofs.lemmas.Bool.{and_from, both_ways, cases_Bool, cases_eq, cases_lt, le-leb, not-false, not-true}
 use Rattle.lines.specs.declared.records.Line.{Line}
-use Rattle.lines.specs.declared.records.Line.TheVariants as Line
 use Rattle.script.specs.Tree.{Part, grow, grown, line, other, part}
 use Rattle.script.specs.Apart.{Scope, globals_of, past_globals}
 use Rattle.script.specs.Lists.{Each, times}

@@ -3,7 +3,6 @@ use Rattle.std.proofs.Common.{◌≡◌, ℕ, zero, suc, ◌<◌, ◌≤◌, Boo
 use lib.Signed.{le_z, le_z_yes}
 use Rattle.std.proofs.lemmas.Bool.{and_from, and_parts, both_ways, cases_Bool, cases_eq, cases_lt, eq-eqb, eqb-true, le-leb, leb-true, lt-ltb, ltb-true, ne_eqb, not_from_false, not-true, or_cases, or_left, or_right}
 use Rattle.lines.specs.declared.records.Line.{Line}
-use Rattle.lines.specs.declared.records.Line.TheVariants as Line
 use Rattle.script.specs.Apart.{Scope, as_global}
 use Rattle.script.specs.Lists.{Any, Each, times}
 use Rattle.script.specs.Scoped.{Among}

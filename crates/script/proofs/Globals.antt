@@ -2,7 +2,6 @@
 use Rattle.std.proofs.Common.{◌≡◌, ℕ, zero, suc, ◌<◌, ◌≤◌, true, false, ◌⊎◌, List, [], ◌∷◌, length, get_or, None, Option, refl, ap, inl, inr, arith}
 use Rattle.std.proofs.lemmas.Bool.{both_ways}
 use Rattle.lines.specs.declared.records.Line.{Line}
-use Rattle.lines.specs.declared.records.Line.TheVariants as Line
 use Rattle.script.specs.Tree.{line, nought}
 use Rattle.script.specs.Apart.{as_global, head_then, heads, past_globals}
 use Rattle.script.specs.Fields.{class_of, fields, is_nothing}

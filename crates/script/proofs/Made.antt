@@ -2,7 +2,6 @@
 use Rattle.std.proofs.Common.{◌≡◌, ℕ, true, false, List, get_or, sym, refl, ap, ◌∙◌, inl, inr}
 use Rattle.std.proofs.lemmas.Bool.{both_ways}
 use Rattle.lines.specs.declared.records.Line.{Line}
-use Rattle.lines.specs.declared.records.Line.TheVariants as Line
 use Rattle.script.specs.Script.{Condition, Declarations, Expression, Place, Statement, assign, both, branch, call, choose, compared, constant, element, implies, joined, negated, new_array, new_simple, procedure, simple, system, truth, word_of, work}
 use Rattle.script.specs.Tree.{Part, as_condition, as_declarations, as_expression, as_place, as_statement, condition, declarations, expression, grown, other, place, statement}
 use Rattle.script.specs.Lists.{Any, Each}

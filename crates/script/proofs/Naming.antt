@@ -1,7 +1,6 @@
 -- What a line does with names says which line it is.
 use Rattle.std.proofs.Common.{◌≡◌, ℕ, List, [], ◌∷◌, ◌++◌, refl, ap, subst, ap₂}
 use Rattle.lines.specs.declared.records.Line.{Line}
-use Rattle.lines.specs.declared.records.Line.TheVariants as Line
 use Rattle.script.specs.Apart.{Scope}
 use Rattle.script.specs.Lists.{Each}
 use Rattle.script.specs.Fields.{fields, named_in}

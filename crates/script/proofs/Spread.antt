@@ -2,7 +2,6 @@
 use Rattle.std.proofs.Common.{◌≡◌, ℕ, zero, suc, ◌+◌, ◌<◌, ◌≤◌, true, false, eqb, ◌⊎◌, ◌↔◌, sym, refl, ap, ◌∙◌, subst, inl, inr, arith}
 use Rattle.std.proofs.lemmas.Bool.{both_ways, cases_eq, cases_lt, ne_eqb}
 use Rattle.lines.specs.declared.records.Line.{Line}
-use Rattle.script.specs.Apart.{own}
 use Rattle.script.specs.Lists.{Each, times}
 use Rattle.script.specs.Fields.{class_of, fields, fits, is_nothing, of_statement}
 use Rattle.script.specs.Around.{around, handed, if_named, user}

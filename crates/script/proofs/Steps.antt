@@ -3,7 +3,6 @@ use Rattle.std.proofs.Common.{◌≡◌, ℕ, ◌<◌, Bool, true, false, ◌&&�
 use mathlib.Core.Path.{transport}
 use Rattle.std.proofs.lemmas.Bool.{and_left, and_right, both_ways, cases_lt, eq-eqb, eqb-false, le-ltb, lt-ltb, ne_eqb, or_from, or_parts}
 use Rattle.lines.specs.declared.records.Line.{Line}
-use Rattle.lines.specs.declared.records.Line.TheVariants as Line
 use Rattle.script.specs.Script.{Declarations, Expression, Statement, assign, both, branch, call, joined, new_array, new_simple, procedure, system}
 use Rattle.script.specs.Tree.{Part, condition, declarations, expression, grown, other, place, statement}
 use Rattle.script.specs.Apart.{Scope, own, own_value, own_variable, with_array, with_procs, with_simple}

@@ -1,7 +1,6 @@
 -- The procedures at a line are those of its part, so that what is around a line is told by parts too.
 use Rattle.std.proofs.Common.{◌≡◌, ℕ, zero, suc, ◌<◌, ◌≤◌, true, ◌⊎◌, List, [], ◌++◌, get_or, sym, refl, ap, ◌∙◌, ap₂, arith}
 use Rattle.lines.specs.declared.records.Line.{Line}
-use Rattle.lines.specs.declared.records.Line.TheVariants as Line
 use Rattle.script.specs.Tree.{Part, grow, grown, other, part}
 use Rattle.script.specs.Apart.{Scope}
 use Rattle.script.specs.Lists.{Each}

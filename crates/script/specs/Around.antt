@@ -1,7 +1,6 @@
 -- What is around a line: the scope that it stands in, and the procedures that it is declared together with.
 use Rattle.std.specs.Prelude.{ℕ, zero, suc, List, [], ◌∷◌, ◌++◌}
 use Rattle.lines.specs.declared.records.Line.{Line}
-use Rattle.lines.specs.declared.records.Line.TheVariants as Line
 use Rattle.script.specs.Script.{Declarations, joined, procedure}
 use Rattle.script.specs.Tree.{Part, condition, declarations, expression, other, part, place, statement}
 use Rattle.script.specs.Apart.{Scope, own, own_value, own_variable, with_array, with_simple}

@@ -1,7 +1,6 @@
 -- What a sheet is refused for: the faults of its lines, each by its number. L has the lines, and N is the last one's number.
 use Rattle.std.specs.Prelude.{◌≡◌, ℕ, suc, ◌<◌, ◌≤◌, true, false, ◌⊎◌, List, [], ◌∷◌, length, ℤ, ◌≤ℤ◌}
 use Rattle.lines.specs.declared.records.Line.{Line}
-use Rattle.lines.specs.declared.records.Line.TheVariants as Line
 use Rattle.script.specs.Tree.{line, part}
 use Rattle.script.specs.Apart.{Scope, globals_of}
 use Rattle.script.specs.Lists.{Any, Each, times}

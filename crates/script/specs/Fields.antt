@@ -1,7 +1,6 @@
 -- What each line is in the text, and which lines it names.
 use Rattle.std.specs.Prelude.{ℕ, Bool, not, ◌&&◌, ◌||◌, List, [], ◌∷◌, ◌++◌, ◌==◌, slice_index_or}
 use Rattle.lines.specs.declared.records.Line.{Line}
-use Rattle.lines.specs.declared.records.Line.TheVariants as Line
 use Rattle.script.specs.Tree.{at_line}
 
 -- what a line is in the text; a global is no part of it

@@ -1,7 +1,6 @@
 -- Which sheets are scripts.
 use Rattle.std.specs.Prelude.{◌≡◌, ℕ, zero, suc, ◌<◌, ◌≤◌, Bool, true, false, List, [], ◌∷◌, length, ℤ, ◌≤ℤ◌}
 use Rattle.lines.specs.declared.records.Line.{Line}
-use Rattle.lines.specs.declared.records.Line.TheVariants as Line
 use Rattle.script.specs.Script.{Declarations, Statement, assign, both, branch, call, joined, new_array, new_simple, procedure, system}
 use Rattle.script.specs.Tree.{line, part, statement}
 use Rattle.script.specs.Apart.{globals_of, past_globals}

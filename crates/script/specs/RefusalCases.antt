@@ -3,8 +3,6 @@ use Rattle.std.specs.Prelude.{◌≡◌, ℕ, zero, suc, ◌+◌, true, List, []
 use Rattle.lines.specs.declared.sorts.Operator.TheVariants.{Minus, Plus}
 use Rattle.lines.specs.declared.sorts.Relation.TheVariants.{Equal}
 use Rattle.lines.specs.declared.records.Line.{Line}
-use Rattle.lines.specs.declared.records.Line.TheVariants as Line
-use Rattle.script.specs.Around.{joins}
 use Rattle.script.specs.Tests.{refusal}
 
 -- Globals 1 and 2, and the procedure 1 with the formals 3 and 4: if 3 is 0 then 4 becomes 0, and else the procedure is called

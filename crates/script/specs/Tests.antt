@@ -3,7 +3,6 @@
 -- G is the number of the first line behind the globals.
 use Rattle.std.specs.Prelude.{ℕ, zero, suc, max, Bool, true, false, not, ◌&&◌, ◌||◌, List, [], ◌∷◌, ◌++◌, length, ℤ, Some, None, Option, ◌==◌, int_le, nat_le, nat_lt, slice_index, slice_index_or}
 use Rattle.lines.specs.declared.records.Line.{Line}
-use Rattle.lines.specs.declared.records.Line.TheVariants as Line
 use Rattle.script.specs.Tree.{at_line, line}
 use Rattle.script.specs.Apart.{Scope, as_global, globals_of, past_globals}
 use Rattle.script.specs.Lists.{times}

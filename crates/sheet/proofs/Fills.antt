@@ -1,5 +1,5 @@
 -- What a turn of the loop over a sheet's lines does to what is left to read.
-use Rattle.std.proofs.Common.{◌≡◌, ℕ, zero, suc, ◌+◌, ◌<◌, ◌≤◌, true, false, cond, ◌&&◌, eqb, leb, ◌⊎◌, List, [], ◌∷◌, ◌++◌, map, length, get_or, drop, set, Some, None, Ok, Err, Option, Result, sym, refl, ap, ◌∙◌, inl, inr, append_assoc, add-one, arith, rules}
+use Rattle.std.proofs.Common.{◌≡◌, ℕ, ◌+◌, ◌<◌, ◌≤◌, true, false, cond, ◌&&◌, eqb, leb, ◌⊎◌, List, [], ◌∷◌, ◌++◌, map, length, get_or, drop, set, None, Ok, Err, Option, Result, sym, refl, ap, ◌∙◌, append_assoc, add-one, arith, rules}
 use Rattle.std.proofs.lemmas.List.{append-nil, length-set, length_push, length-map, map_push, drop_more, set_at}
 use Rattle.text.specs.Cutting.{Absent, CutAt}
 use Rattle.text.specs.Lines.{Row, closed, unclosed, in_front, rows}

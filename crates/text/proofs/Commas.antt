@@ -1,5 +1,5 @@
 -- The fields of a line, from where its first comma is.
-use Rattle.std.proofs.Common.{◌≡◌, ℕ, zero, suc, ◌+◌, ◌<◌, ◌≤◌, Bool, true, false, cond, eqb, List, [], ◌∷◌, ◌++◌, length, get_or, Some, None, Option, refl, ap, ◌∙◌, arith, rules, MatchOption}
+use Rattle.std.proofs.Common.{◌≡◌, ℕ, suc, ◌<◌, true, false, cond, eqb, List, [], ◌∷◌, ◌++◌, length, Some, None, Option, refl, ap, ◌∙◌, arith, rules, MatchOption}
 use Rattle.text.specs.Cutting.{Absent, CutAt}
 use Rattle.text.specs.Fields.{onto, fields}
 

@@ -1,9 +1,9 @@
 -- The lines of a text, from where its first byte 10 is.
-use Rattle.std.proofs.Common.{◌≡◌, ℕ, zero, suc, ◌+◌, ◌-◌, ◌<◌, ◌≤◌, true, false, cond, eqb, List, [], ◌∷◌, ◌++◌, length, get_or, take, drop, Some, None, sym, refl, ap, ◌∙◌, arith, rules}
+use Rattle.std.proofs.Common.{◌≡◌, ℕ, zero, suc, ◌+◌, ◌-◌, ◌<◌, false, eqb, List, [], ◌∷◌, ◌++◌, length, take, drop, Some, None, sym, refl, ap, ◌∙◌, arith, rules}
 use Rattle.std.specs.List.{slice_get}
 use Rattle.std.proofs.lemmas.List.{take-append-drop, drop_more, length-take, get_or-take}
 use Rattle.text.specs.Cutting.{Absent, FirstAt, CutAt}
-use Rattle.text.specs.Lines.{Row, closed, unclosed, in_front, rows, if_closed}
+use Rattle.text.specs.Lines.{closed, unclosed, rows, if_closed}
 
 -- a text, cut where a byte first stands
 pub cut_first : (byte : ℕ) (xs : List ℕ) (i : ℕ) → FirstAt byte xs i → CutAt byte xs (take i xs) (drop (i + 1) xs)

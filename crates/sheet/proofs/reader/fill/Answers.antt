@@ -1,4 +1,4 @@
-use Rattle.std.proofs.Common.{◌≡◌, ◌+◌, [], ◌∷◌, ◌++◌, length, sym, refl, ap, ◌∙◌, inl, inr, ⊎_elim, arith, length-append}
+use Rattle.std.proofs.Common.{◌+◌, [], ◌∷◌, ◌++◌, length, refl, ap, inl, inr, ⊎_elim, arith, length-append}
 use Rattle.text.specs.Lines.{rows}
 use Rattle.sheet.proofs.Fills.{started, stopped, one_more, rows_some, rows_none, lines_full, lines_read, lines_unclosed}
 use Rattle.sheet.proofs.reader.fill.Goals as goal

@@ -1,4 +1,4 @@
-use Rattle.std.proofs.Common.{ℕ, List, length}
+use Rattle.std.proofs.Common.{List, length}
 use Rattle.lines.specs.declared.records.Line.{Line}
 use Rattle.sheet.proofs.Fills.{ReadSoFar}
 use Rattle.sheet.proofs.reader.fill.Given as goal

@@ -1,4 +1,4 @@
-use Rattle.std.proofs.Common.{sym, ◌∙◌, arith, length-take}
+use Rattle.std.proofs.Common.{arith, length-take}
 use Rattle.stores.proofs.word_table.table_size.Goals as goal
 
 pub returns : goal.returns

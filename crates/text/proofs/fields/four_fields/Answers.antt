@@ -1,4 +1,4 @@
-use Rattle.std.proofs.Common.{◌≡◌, length, ap, arith}
+use Rattle.std.proofs.Common.{length, ap, arith}
 use Rattle.text.proofs.Commas.{fields_some}
 use Rattle.text.proofs.fields.four_fields.Goals as goal
 

@@ -1,4 +1,4 @@
-use Rattle.std.proofs.Common.{◌≡◌, sym, ap, ◌∙◌, arith}
+use Rattle.std.proofs.Common.{sym, ap, ◌∙◌, arith}
 use Rattle.text.specs.Lines.{if_closed}
 use Rattle.text.proofs.Rows.{past_first, none_closed, first_closed}
 use Rattle.text.proofs.lines.line_after.Goals as goal

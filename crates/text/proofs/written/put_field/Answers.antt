@@ -1,4 +1,4 @@
-use Rattle.std.proofs.Common.{◌≡◌, ◌+◌, [], ◌∷◌, decimal, sym, ap, ◌∙◌, arith}
+use Rattle.std.proofs.Common.{◌+◌, [], ◌∷◌, decimal, ap, ◌∙◌, arith}
 use Rattle.text.specs.Written.{placed}
 use Rattle.text.proofs.Placed.{placed_set, placed_more}
 use Rattle.text.proofs.written.put_field.Goals as goal
