@@ -115,11 +115,11 @@ fn is_unnamed(records: &[Record], n: usize) -> bool
         && is_named_by_none(records, n)
 }
 
-// Whether line n is a global behind another sort of line; `past_globals` is the first line that is no global.
-fn late_global(records: &[Record], past_globals: usize, n: usize) -> bool
-    ensures { result ≡ late_global (line (lines_of records.now)) past_globals n }
+// Whether line n is a global behind another sort of line; `first_other` is the first line that is no global.
+fn late_global(records: &[Record], first_other: usize, n: usize) -> bool
+    ensures { result ≡ late_global (line (lines_of records.now)) first_other n }
 {
-    past_globals <= n && class_of(line_at(records, n)).is_nothing()
+    first_other <= n && class_of(line_at(records, n)).is_nothing()
 }
 
 // Whether line n is the last and no statement.
