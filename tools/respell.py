@@ -13,11 +13,8 @@ import os
 import re
 import sys
 
-NAME = r"[A-Za-zα-ωΑ-Ω₀-₉0-9_'′⁺₂-]+"
 TOKEN = re.compile(r"(?<![\w'′-])([A-Za-zα-ωΑ-Ω][\w'′₀-₉⁺]*(?:-[\w'′₀-₉⁺]+)+)(?![\w'′-])")
 SIGNATURE = re.compile(r"^([ \t]*)((?:(?:pattern|unfoldable|abbrev|pub|axiom)\s+)*)((?:record|data)\s+)?([A-Za-zα-ω][^\s(){}:;,.]*)((?:\s+[({][^=\n]*)?)\s:\s(.*(?:\n[ \t]+(?:→|×|≡).*)*)", re.M)
-
-
 # the names in mixed case
 MIXED = {
     "constantWord": "constant_word",
@@ -35,7 +32,7 @@ def files(*endings):
             if top == ".":
                 dirs[:] = []
             for name in sorted(names):
-                if name.endswith(endings):
+                if name.endswith(endings) and name != "PORT.md":  # which tells old names
                     yield os.path.join(folder, name)
 
 
@@ -52,7 +49,7 @@ def library_names():
     return found
 
 
-def is_made(path, name):
+def is_made(name):
     """Names that the check makes: goals, invariants, measures and steps of a function's proof."""
     if re.match(r"(invariant-loop|decreases|returns|loop|overflow|offset|bounds)[-_]", name):
         return True
@@ -67,7 +64,7 @@ def own_names():
             text = f.read()
         for m in SIGNATURE.finditer(text):
             name, kind = m.group(4), m.group(6)
-            if "-" not in name and "′" not in name or is_made(path, name):
+            if "-" not in name and "′" not in name or is_made(name):
                 continue
             if re.match(r"(goal|goals|need|needs|rules)\.", kind) or "Goals" in kind.split()[0]:
                 continue
@@ -77,7 +74,7 @@ def own_names():
             found[name] = found.get(name, False) or is_type
         for m in re.finditer(r"^[ \t]*(?:abbrev |pub |mutual|unfoldable )*((?:[A-Za-z][\w'-]*\s+)+[A-Za-z][\w'-]*)\s:\s(?!goals?\.|needs?\.|rules\.)", text, re.M):
             for name in m.group(1).split():
-                if "-" in name and not is_made(path, name):
+                if "-" in name and not is_made(name):
                     found.setdefault(name, False)
         # variables that a signature or a binder names
         for m in re.finditer(r"[({]((?:[A-Za-zα-ω][\w'′-]*\s+)*[A-Za-zα-ω][\w'′-]*)\s:\s", text):
@@ -89,7 +86,7 @@ def own_names():
 
 def respelled(name, is_type):
     name = name.replace("′", "'")
-    if is_type or (name[0].isupper() and len(name.split("-")[0]) >= 1 and is_type):
+    if is_type:
         return "".join(w[0].upper() + w[1:] for w in name.split("-"))
     return name.replace("-", "_")
 
