@@ -21,6 +21,7 @@ MIXED = {
     "finiteAnswer": "finite_answer",
     "finiteWord": "finite_word",
     "sumSign": "sum_sign",
+    "getD-last": "get_or_last",
     "getD_last": "get_or_last",
 }
 
