@@ -8,7 +8,7 @@ pub type Name = u8;
 pub type LineNumber = u16;
 
 // What a line says. Fields that hold a line number are called by what that line is to be.
-#[derive(Clone, Copy)]
+#[derive(Clone, Copy, PartialEq, Eq, Debug)]
 pub enum Line {
     // the length is 0 for a simple variable
     Global {
@@ -94,7 +94,7 @@ pub enum Line {
 }
 
 // As what its declaring line declares a name.
-#[derive(Clone, Copy)]
+#[derive(Clone, Copy, PartialEq, Eq, Debug)]
 pub enum Role {
     // the variable, array or procedure that the line is for
     Declared,
@@ -103,15 +103,23 @@ pub enum Role {
 }
 
 // The declaration that a name belongs to.
-#[derive(Clone, Copy)]
+#[derive(Clone, Copy, PartialEq, Eq, Debug)]
 pub struct Declaration {
     pub line: LineNumber,
     pub role: Role,
 }
 
 // A line of a sheet, and the declaration that its name belongs to: none before the sheet is accepted.
-#[derive(Clone, Copy)]
+#[derive(Clone, Copy, PartialEq, Eq, Debug)]
 pub struct Record {
     pub line: Line,
     pub declaration: Option<Declaration>,
+}
+
+impl Record {
+    // A place that no line is read into yet.
+    pub const BLANK: Record = Record {
+        line: Line::Truth { value: false },
+        declaration: None,
+    };
 }

@@ -1,8 +1,11 @@
 // Why a sheet is refused.
-ghost use Rattle.std.specs.Prelude.{◌≡◌};
+ghost use Rattle.std.specs.Prelude.{◌≡◌, Some};
 ghost use Rattle.lines.specs.Refusals.{number_of, meaning_of};
 
-#[derive(Clone, Copy)]
+use std::error::Error;
+use std::fmt;
+
+#[derive(Clone, Copy, PartialEq, Eq, Debug)]
 pub enum Cause {
     TextSize,
     Form,
@@ -11,11 +14,12 @@ pub enum Cause {
     Room,
 }
 
-impl Cause {
-    pub fn number(self) -> u8
-        ensures { result ≡ number_of self }
-    {
-        match self {
+// The number of a refusal for that cause.
+impl From<Cause> for u8 {
+    ghost from_gives = { λ cause n. n ≡ number_of cause };
+
+    fn from(cause: Cause) -> u8 {
+        match cause {
             Cause::TextSize => 1,
             Cause::Form => 2,
             Cause::Field => 3,
@@ -23,24 +27,35 @@ impl Cause {
             Cause::Room => 5,
         }
     }
+}
 
-    // What it means, in plain words.
-    pub fn meaning(self) -> &'static str
-        ensures { result.now ≡ meaning_of self }
-    {
-        match self {
+// What it means, in plain words.
+impl fmt::Display for Cause {
+    ghost output = { λ cause. Some (meaning_of cause) };
+
+    fn fmt<W: fmt::Write>(&self, f: &mut fmt::Formatter<W>) -> fmt::Result {
+        f.write_str(match self {
             Cause::TextSize => "the sheet has no byte, or more than 65536",
             Cause::Form => "the line does not end, or has not just six fields",
             Cause::Field => "a field is not a number of its range",
             Cause::Kind => "the kind is not one known character",
             Cause::Room => "the line is past 2048, or no record is left for it",
-        }
+        })
     }
 }
 
+impl Error for Cause {}
+
 // A cause, and the line at fault: 0 where none is.
-#[derive(Clone, Copy)]
-pub struct Refusal {
-    pub cause: Cause,
-    pub line: u16,
+#[derive(Clone, Copy, PartialEq, Eq, Debug)]
+pub struct Refusal<C> {
+    pub cause: C,
+    pub line: usize,
+}
+
+impl<C: Copy + fmt::Display + Into<u8>> fmt::Display for Refusal<C> {
+    fn fmt<W: fmt::Write>(&self, f: &mut fmt::Formatter<W>) -> fmt::Result {
+        let number: u8 = self.cause.into();
+        write!(f, "{number} at line {}: {}", self.line, self.cause)
+    }
 }

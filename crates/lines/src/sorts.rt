@@ -2,7 +2,7 @@
 ghost use Rattle.std.specs.Prelude.{◌≡◌};
 ghost use Rattle.lines.specs.Sorts.{sort_of};
 
-#[derive(Clone, Copy)]
+#[derive(Clone, Copy, PartialEq, Eq, Debug)]
 pub enum Operator {
     Plus,
     Minus,
@@ -10,14 +10,14 @@ pub enum Operator {
     Over,
 }
 
-#[derive(Clone, Copy)]
+#[derive(Clone, Copy, PartialEq, Eq, Debug)]
 pub enum Relation {
     Equal,
     Less,
 }
 
 // What a line is. Comments give a term's meaning where its name does not.
-#[derive(Clone, Copy)]
+#[derive(Clone, Copy, PartialEq, Eq, Debug)]
 pub enum Sort {
     // a variable or an array that outlives the runs
     Global,
@@ -27,7 +27,7 @@ pub enum Sort {
     Declaration(DeclarationSort),
 }
 
-#[derive(Clone, Copy)]
+#[derive(Clone, Copy, PartialEq, Eq, Debug)]
 pub enum ExpressionSort {
     Constant,
     // a simple variable
@@ -39,7 +39,7 @@ pub enum ExpressionSort {
     Choice,
 }
 
-#[derive(Clone, Copy)]
+#[derive(Clone, Copy, PartialEq, Eq, Debug)]
 pub enum ConditionSort {
     Truth(bool),
     Comparison(Relation),
@@ -47,7 +47,7 @@ pub enum ConditionSort {
     Implication,
 }
 
-#[derive(Clone, Copy)]
+#[derive(Clone, Copy, PartialEq, Eq, Debug)]
 pub enum StatementSort {
     Assignment,
     // one statement, then another
@@ -63,7 +63,7 @@ pub enum StatementSort {
     System,
 }
 
-#[derive(Clone, Copy)]
+#[derive(Clone, Copy, PartialEq, Eq, Debug)]
 pub enum DeclarationSort {
     Procedure,
     // two declarations taken together

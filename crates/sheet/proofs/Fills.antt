@@ -16,7 +16,7 @@ use Rattle.sheet.specs.Reading.{row_reading, reading, Outcome, refused, then_out
 abbrev pub after : List Line → Outcome → Outcome
 after ls o = record { lines = ls ++ o.lines; refusal = o.refusal }
 
-abbrev pub ended : Option Refusal → Outcome
+abbrev pub ended : Option (Refusal Cause) → Outcome
 ended r = record { lines = []; refusal = r }
 
 pub lines_none : (room n : ℕ) → from_line room n [] ≡ ended None
@@ -77,7 +77,7 @@ pub started : (text : List ℕ) (old : List Record) → ReadSoFar (length old) 0
 started text old = record { counted = refl; within = omega arith; held = refl; full = omega arith; whole = refl; memory = refl }
 
 -- the reading ends here
-pub stopped : (room count : ℕ) (text rest : List ℕ) (records old : List Record) (ls : List Line) (r : Option Refusal) → ReadSoFar room count text rest records old ls → from_line room (count + 1) (rows rest) ≡ ended r → (or_count count r ≡ answer (from_line room 1 (rows text))) × (records ≡ filled (from_line room 1 (rows text)).lines old)
+pub stopped : (room count : ℕ) (text rest : List ℕ) (records old : List Record) (ls : List Line) (r : Option (Refusal Cause)) → ReadSoFar room count text rest records old ls → from_line room (count + 1) (rows rest) ≡ ended r → (or_count count r ≡ answer (from_line room 1 (rows text))) × (records ≡ filled (from_line room 1 (rows text)).lines old)
 stopped room count text rest records old ls r s e =
     let o : from_line room 1 (rows text) ≡ after ls (ended r) = s.whole ∙ ap (after ls) e in
     let n : (from_line room 1 (rows text)).lines ≡ ls = ap (λ x. x.lines) o ∙ append-nil ls in (

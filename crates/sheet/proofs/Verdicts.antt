@@ -12,7 +12,7 @@ use Rattle.sheet.specs.Verdict.{AllRead, FirstRefused, Verdict}
 use Rattle.sheet.proofs.Fills.{lines_step, lines_none}
 
 -- what is right of the lines from line n on
-abbrev Right : ℕ → ℕ → List Row → Result ℕ Refusal → Type 0
+abbrev Right : ℕ → ℕ → List Row → Result ℕ (Refusal Cause) → Type 0
 Right room n rs (Ok count) = (count ≡ length rs) × AllRead room n rs count
 Right room n rs (Err r) = FirstRefused room n rs r
 
@@ -29,7 +29,7 @@ all_more room n row rs k l e h (suc j) x p q =
 
 right_more : (room n : ℕ) (row : Row) (rs : List Row) (l : Line) (o : Outcome) → reading room n row ≡ Ok l → Right room (n + 1) rs (answer o) → Right room n (row ∷ rs) (answer (then_outcome n (Ok l) o))
 right_more room n row rs l o e h = by o.refusal h where
-  by : (r : Option Refusal) → Right room (n + 1) rs (answer (record { lines = o.lines; refusal = r })) → Right room n (row ∷ rs) (answer (record { lines = l ∷ o.lines; refusal = r }))
+  by : (r : Option (Refusal Cause)) → Right room (n + 1) rs (answer (record { lines = o.lines; refusal = r })) → Right room n (row ∷ rs) (answer (record { lines = l ∷ o.lines; refusal = r }))
   by None h = (ap suc h.0, all_more room n row rs (length o.lines) l e h.1)
   by (Some r) h =
       let z : n + suc h.0 ≡ n + 1 + h.0 = omega arith in
@@ -45,7 +45,7 @@ right : (room n : ℕ) (rs : List Row) → Right room n rs (answer (from_line ro
 right room n [] = subst (λ o. Right room n [] (answer o)) (sym (lines_none room n)) (refl, λ j x p q. absurd (omega arith))
 right room n (row ∷ rs) = subst (λ o. Right room n (row ∷ rs) (answer o)) (sym (lines_step room n row rs)) (right_at room n row rs (reading room n row) (from_line room (n + 1) rs) refl (right room (n + 1) rs))
 
-verdict_by : (room : ℕ) (text : List ℕ) (b : Bool) → sized text ≡ b → (r : Result ℕ Refusal) → Right room 1 (rows text) r → Verdict room text (cond b r (Err (record { cause = TextSize; line = 0 })))
+verdict_by : (room : ℕ) (text : List ℕ) (b : Bool) → sized text ≡ b → (r : Result ℕ (Refusal Cause)) → Right room 1 (rows text) r → Verdict room text (cond b r (Err (record { cause = TextSize; line = 0 })))
 verdict_by room text false e r h = inl (e, refl)
 verdict_by room text true e (Ok n) h = (e, h.0, h.1)
 verdict_by room text true e (Err r) h = inr (e, h)
@@ -64,7 +64,7 @@ true_false e = let z : ◌≡◌ {A = ℕ} 0 1 = cc in omega arith
 not_both : (x : Result Line Cause) (c : Cause) (l : Line) → x ≡ Err c → x ≡ Ok l → ⊥
 not_both x c l p q = let z : ◌≡◌ {A = ℕ} 0 1 = cc in omega arith
 
-refused_once : (room n : ℕ) (rs : List Row) (r s : Refusal) → FirstRefused room n rs r → FirstRefused room n rs s → r ≡ s
+refused_once : (room n : ℕ) (rs : List Row) (r s : Refusal Cause) → FirstRefused room n rs r → FirstRefused room n rs s → r ≡ s
 refused_once room n rs r s p q =
     ⊎_elim (λ l. absurd (not_both _ _ _ p.4 (q.5 p.0 p.1 l p.3).1))
     (λ l. ⊎_elim (λ m. absurd (not_both _ _ _ q.4 (p.5 q.0 q.1 m q.3).1))
@@ -83,7 +83,7 @@ nth_within (y ∷ xs) zero x e = omega arith
 nth_within (y ∷ xs) (suc k) x e = let t = nth_within xs k x e in omega arith
 
 -- no text has two verdicts
-pub one_verdict : (room : ℕ) (text : List ℕ) (r s : Result ℕ Refusal) → Verdict room text r → Verdict room text s → r ≡ s
+pub one_verdict : (room : ℕ) (text : List ℕ) (r s : Result ℕ (Refusal Cause)) → Verdict room text r → Verdict room text s → r ≡ s
 one_verdict room text (Ok m) (Ok n) p q = ap Ok (p.1 ∙ sym q.1)
 one_verdict room text (Ok m) (Err s) p (inl q) = let a = p.0 in let b = q.0 in let z : true ≡ false = cc in absurd (true_false z)
 one_verdict room text (Ok m) (Err s) p (inr q) = let f = q.1 in absurd (not_both _ _ _ f.4 (p.2 f.0 f.1 (subst (λ k. f.0 < k) (sym p.1) (nth_within _ _ _ f.3)) f.3).1)

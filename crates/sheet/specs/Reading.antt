@@ -20,7 +20,7 @@ reading room n row = cond (nat_le n 2048 && nat_le n room) (row_reading n row) (
 -- what reading gives: the lines before the first that is refused, and that refusal, if any
 pub record Outcome : Type 0 where
   pub lines : List Line
-  pub refusal : Option Refusal
+  pub refusal : Option (Refusal Cause)
 
 -- nothing read, and a refusal
 abbrev pub refused : Cause → ℕ → Outcome
@@ -44,12 +44,12 @@ sized text = nat_le 1 (length text) && nat_le (length text) 65536
 abbrev pub outcome : ℕ → List ℕ → Outcome
 outcome room text = cond (sized text) (from_line room 1 (rows text)) (refused TextSize 0)
 
-abbrev pub or_count : ℕ → Option Refusal → Result ℕ Refusal
+abbrev pub or_count : ℕ → Option (Refusal Cause) → Result ℕ (Refusal Cause)
 or_count n None = Ok n
 or_count n (Some r) = Err r
 
 -- the answer: how many lines were read, or the refusal
-abbrev pub answer : Outcome → Result ℕ Refusal
+abbrev pub answer : Outcome → Result ℕ (Refusal Cause)
 answer o = or_count (length o.lines) o.refusal
 
 -- a record as the reader fills it: no name has its declaration yet
