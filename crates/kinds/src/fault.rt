@@ -1,6 +1,9 @@
 // Why an operation on two numbers has no result.
-ghost use Rattle.std.specs.Prelude.{◌≡◌};
-ghost use Rattle.kinds.specs.Faults.{numbered};
+ghost use Rattle.std.specs.Prelude.{◌≡◌, Some};
+ghost use Rattle.kinds.specs.Faults.{numbered, in_words};
+
+use std::error::Error;
+use std::fmt;
 
 #[derive(Clone, Copy, PartialEq, Eq, Debug)]
 pub enum ArithmeticFault {
@@ -8,14 +11,27 @@ pub enum ArithmeticFault {
     ZeroDivisor,
 }
 
-impl ArithmeticFault {
-    // The number by which the fault is told.
-    pub fn number(self) -> u8
-        ensures { result ≡ numbered self }
-    {
-        match self {
+// The number by which the fault is told.
+impl From<ArithmeticFault> for u8 {
+    ghost from_gives = { λ fault n. n ≡ numbered fault };
+
+    fn from(fault: ArithmeticFault) -> u8 {
+        match fault {
             ArithmeticFault::OutOfRange => 21,
             ArithmeticFault::ZeroDivisor => 22,
         }
     }
 }
+
+impl fmt::Display for ArithmeticFault {
+    ghost output = { λ fault. Some (in_words fault) };
+
+    fn fmt<W: fmt::Write>(&self, f: &mut fmt::Formatter<W>) -> fmt::Result {
+        f.write_str(match self {
+            ArithmeticFault::OutOfRange => "outside the range of the kind",
+            ArithmeticFault::ZeroDivisor => "a zero divisor",
+        })
+    }
+}
+
+impl Error for ArithmeticFault {}

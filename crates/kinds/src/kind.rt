@@ -1,5 +1,5 @@
 // What a number kind is: which words it takes, and what it does with them.
-ghost use Rattle.std.specs.Prelude.{◌≡◌};
+ghost use Rattle.std.specs.Prelude.{◌≡◌, ℤ};
 ghost use Rattle.kinds.specs.Arithmetic.{Arithmetic, Laws, constant_word};
 
 use crate::fault::ArithmeticFault;
@@ -13,14 +13,12 @@ pub trait NumberKind {
 
     const LARGEST: i32;
 
+    // The same two in clauses. By the laws below they are the ends that the kind's meaning has.
+    ghost SMALLEST: { ℤ };
+
+    ghost LARGEST: { ℤ };
+
     ghost kind: { Arithmetic };
-
-    // `SMALLEST` and `LARGEST`, by functions: generic code knows nothing of a constant's value.
-    fn smallest_constant() -> i32
-        ensures { result ≡ kind.least };
-
-    fn largest_constant() -> i32
-        ensures { result ≡ kind.most };
 
     fn is_lawful(w: u32) -> bool
         ensures { result ≡ kind.lawful w };
@@ -53,6 +51,10 @@ pub trait NumberKind {
     // The number as an index of an array, where it can be one.
     fn index(w: u32) -> Option<u32>
         ensures { result ≡ kind.index w };
+
+    ghost smallest_is: { SMALLEST ≡ kind.least };
+
+    ghost largest_is: { LARGEST ≡ kind.most };
 
     ghost laws: { Laws kind };
 }

@@ -1,5 +1,5 @@
 // The finite numbers of IEEE 754's binary32.
-ghost use Rattle.std.specs.Prelude.{◌≡◌, T};
+ghost use Rattle.std.specs.Prelude.{◌≡◌, refl, T};
 ghost use Rattle.kinds.specs.Arithmetic.{holds};
 ghost use Rattle.kinds.specs.Single as SingleWords;
 ghost use Rattle.kinds.specs.SingleLaws;
@@ -64,17 +64,17 @@ impl NumberKind for Single {
 
     const LARGEST: i32 = 16777216;
 
+    ghost SMALLEST = { SingleWords.least };
+
+    ghost LARGEST = { SingleWords.most };
+
     ghost kind = { SingleWords.single };
 
+    ghost smallest_is = { refl };
+
+    ghost largest_is = { refl };
+
     ghost laws = { SingleLaws.laws };
-
-    fn smallest_constant() -> i32 {
-        Self::SMALLEST
-    }
-
-    fn largest_constant() -> i32 {
-        Self::LARGEST
-    }
 
     fn is_lawful(w: u32) -> bool {
         exponent(w) != 255

@@ -54,6 +54,6 @@ fn single_numbers(rt: HostRuntime) {
 
 #[test]
 fn fault_numbers(rt: HostRuntime) {
-    assert_eq!(rt; ArithmeticFault::OutOfRange.number(), 21);
-    assert_eq!(rt; ArithmeticFault::ZeroDivisor.number(), 22);
+    assert_eq!(rt; u8::from(ArithmeticFault::OutOfRange), 21);
+    assert_eq!(rt; u8::from(ArithmeticFault::ZeroDivisor), 22);
 }

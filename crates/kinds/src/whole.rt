@@ -1,5 +1,5 @@
 // Whole numbers in two's complement.
-ghost use Rattle.std.specs.Prelude.{◌≡◌};
+ghost use Rattle.std.specs.Prelude.{◌≡◌, refl};
 ghost use Rattle.std.specs.Option.{option_map, ok_or};
 ghost use Rattle.kinds.specs.declared.fault.ArithmeticFault.TheVariants.{OutOfRange};
 ghost use Rattle.kinds.specs.Whole as WholeWords;
@@ -14,10 +14,7 @@ pub struct Whole;
 fn checked(n: Option<i32>) -> Result<u32, ArithmeticFault>
     ensures { result ≡ ok_or (option_map WholeWords.word n) OutOfRange }
 {
-    match n {
-        Some(n) => Ok(n.cast_unsigned()),
-        None => Err(ArithmeticFault::OutOfRange),
-    }
+    n.map(i32::cast_unsigned).ok_or(ArithmeticFault::OutOfRange)
 }
 
 impl NumberKind for Whole {
@@ -25,17 +22,17 @@ impl NumberKind for Whole {
 
     const LARGEST: i32 = 2147483647;
 
+    ghost SMALLEST = { WholeWords.least };
+
+    ghost LARGEST = { WholeWords.most };
+
     ghost kind = { WholeWords.whole };
 
+    ghost smallest_is = { refl };
+
+    ghost largest_is = { refl };
+
     ghost laws = { WholeLaws.laws };
-
-    fn smallest_constant() -> i32 {
-        Self::SMALLEST
-    }
-
-    fn largest_constant() -> i32 {
-        Self::LARGEST
-    }
 
     fn is_lawful(w: u32) -> bool {
         true
