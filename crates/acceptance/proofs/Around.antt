@@ -2,7 +2,7 @@
 use Rattle.std.proofs.Common.{◌≡◌, ℕ, zero, suc, ◌+◌, ◌-◌, ◌<◌, ◌≤◌, Bool, true, false, ◌&&◌, ◌||◌, eqb, ltb, List, [], ◌∷◌, ◌++◌, length, get_or, sym, refl, ap, ◌∙◌, ap₂, inl, inr, add-one, arith}
 use Rattle.std.proofs.lemmas.Bool.{both_ways, cases_lt, le-ltb, lt-ltb}
 use Rattle.lines.specs.declared.records.Line.{Line}
-use Rattle.script.specs.Tree.{grow, line}
+use Rattle.script.specs.Tree.{grow, line, nought}
 use Rattle.script.specs.Fields.{fields, named_in}
 use Rattle.script.specs.Lists.{times}
 use Rattle.script.specs.Around.{Naming, around, fellows, fellows_by, handed, if_named, joins, naming, opens_array, opens_body, opens_simple, opens_system, silent, user, uses_array, uses_procedure, uses_simple}
@@ -25,6 +25,11 @@ module _ (L : ℕ → Line) (m : ℕ) where
 
   pub user_before : (k j : ℕ) → j + 1 ≡ k → stands m (named_in (fields (L j))) ≡ false → user L k m ≡ user L j m
   user_before k j e h = ap (λ i. user L i m) (sym e ∙ add-one j) ∙ if_miss (times m (named_in (fields (L j)))) (user L j m) j (sym (stands_times m (named_in (fields (L j)))) ∙ h)
+
+-- line 0 names nothing
+pub named_from_one : (ls : List Line) (m k : ℕ) → stands m (named_in (fields (line ls k))) ≡ true → 0 < k
+named_from_one ls m zero h = absurd (both_ways false refl h)
+named_from_one ls m (suc k) h = omega arith
 
 or_assoc : (a b c : Bool) → ((a || b) || c) ≡ (a || (b || c))
 or_assoc true b c = refl
@@ -93,6 +98,9 @@ module _ (ls : List Line) where
       ∙ (ap (λ u. handed (fellows (under (line ls))) [] (line ls) last u (fellows_from (last - (i + 1)) u)) (sym e)
       ∙ (handed_any p (fellows_from (last - (i + 1)) p)
       ∙ ap (λ k. fellows_by (under (line ls)) (naming k) (fellows_from (last - (i + 1)) p)) (sym h)))
+
+  pub fellows_top : (i n : ℕ) → i < last → 0 ≡ user (line ls) (suc last) n → fellows_from (last - i) n ≡ []
+  fellows_top i n q e = fellows_turn i n 0 nought q e refl
 
   pub fellows_none : (i n : ℕ) → last ≤ i → fellows_from (last - i) n ≡ []
   fellows_none i n q = let s : last - i ≡ 0 = omega arith in ap (λ f. fellows_from f n) s

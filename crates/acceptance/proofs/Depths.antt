@@ -1,5 +1,5 @@
 -- The depth of the part at a line, from those at the lines that it names.
-use Rattle.std.proofs.Common.{◌≡◌, ℕ, suc, min, max, Bool, true, false, cond, ◌&&◌, ltb, get_or, ℤ, Some, None, Option, sym, refl, ap, ◌∙◌, ap₂, inl, inr, arith}
+use Rattle.std.proofs.Common.{◌≡◌, ℕ, suc, min, max, Bool, false, cond, ltb, get_or, ℤ, Some, None, Option, sym, refl, ap, ◌∙◌, ap₂, inl, inr, arith}
 use Rattle.std.proofs.lemmas.Bool.{cases_lt, le-ltb, lt-ltb}
 use Rattle.lines.specs.declared.records.Line.{Line}
 use Rattle.lines.specs.declared.sorts.Operator.{Operator}
@@ -9,7 +9,8 @@ use Rattle.script.specs.Script.{Condition, Declarations, Expression, Place, Stat
 use Rattle.script.specs.Tree.{Part, as_condition, as_declarations, as_expression, as_place, as_statement, condition, declarations, expression, grow, grown, other, part, place, statement}
 use Rattle.script.specs.Depth.{condition_depth, deepest_allowed, depth, expression_depth, place_depth}
 use Rattle.script.proofs.Grow.{grow_at, grow_beyond}
-use Rattle.acceptance.specs.Depths.{above_one, above_three, above_two, as_condition_deep, as_expression_deep, counted}
+use Rattle.acceptance.proofs.Optional.{tested}
+use Rattle.acceptance.specs.Depths.{above, as_condition_deep, as_expression_deep, counted, deeper, if_below}
 
 -- what a line makes of the depths of the lines before it
 module _ (E C : ℕ → Option ℕ) (n : ℕ) where
@@ -17,10 +18,10 @@ module _ (E C : ℕ → Option ℕ) (n : ℕ) where
   expression_step (Line.Global a b) = None
   expression_step (Line.Constant k) = Some 1
   expression_step (Line.Simple a) = Some 1
-  expression_step (Line.Element a b) = cond (ltb b n) (above_one (E b)) None
-  expression_step (Line.Operation o a b) = cond (ltb a n && ltb b n) (above_two (E a) (E b)) None
+  expression_step (Line.Element a b) = above (if_below n b (E b))
+  expression_step (Line.Operation o a b) = above (deeper (if_below n a (E a)) (if_below n b (E b)))
   expression_step (Line.Comparison r a b) = None
-  expression_step (Line.Choice a b c) = cond (ltb a n && (ltb b n && ltb c n)) (above_three (C a) (E b) (E c)) None
+  expression_step (Line.Choice a b c) = above (deeper (if_below n a (C a)) (deeper (if_below n b (E b)) (if_below n c (E c))))
   expression_step (Line.Truth b) = None
   expression_step (Line.Negation a) = None
   expression_step (Line.Implication a b) = None
@@ -40,11 +41,11 @@ module _ (E C : ℕ → Option ℕ) (n : ℕ) where
   condition_step (Line.Simple a) = None
   condition_step (Line.Element a b) = None
   condition_step (Line.Operation o a b) = None
-  condition_step (Line.Comparison r a b) = cond (ltb a n && ltb b n) (above_two (E a) (E b)) None
+  condition_step (Line.Comparison r a b) = above (deeper (if_below n a (E a)) (if_below n b (E b)))
   condition_step (Line.Choice a b c) = None
   condition_step (Line.Truth b) = Some 1
-  condition_step (Line.Negation a) = cond (ltb a n) (above_one (C a)) None
-  condition_step (Line.Implication a b) = cond (ltb a n && ltb b n) (above_two (C a) (C b)) None
+  condition_step (Line.Negation a) = above (if_below n a (C a))
+  condition_step (Line.Implication a b) = above (deeper (if_below n a (C a)) (if_below n b (C b)))
   condition_step (Line.Assignment a b) = None
   condition_step (Line.Sequence a b) = None
   condition_step (Line.Branch a b c) = None
@@ -112,40 +113,20 @@ module _ (D : Part → Option ℕ) (none : D other ≡ None) where
   no_declarations (declarations d) k h = h d
   no_declarations other k h = none
 
-counted_one : (o : Option ℕ) → counted (given o (λ a. Some (suc a))) ≡ above_one (counted o)
+counted_one : (o : Option ℕ) → counted (given o (λ a. Some (suc a))) ≡ above (counted o)
 counted_one None = refl
 counted_one (Some a) = ap Some (omega arith)
 
-counted_two : (o p : Option ℕ) → counted (given o (λ a. given p (λ b. Some (suc (max a b))))) ≡ above_two (counted o) (counted p)
+counted_two : (o p : Option ℕ) → counted (given o (λ a. given p (λ b. Some (suc (max a b))))) ≡ above (deeper (counted o) (counted p))
 counted_two None p = refl
 counted_two (Some a) None = refl
 counted_two (Some a) (Some b) = ap Some (omega arith)
 
-counted_three : (o p q : Option ℕ) → counted (given o (λ a. given p (λ b. given q (λ c. Some (suc (max a (max b c))))))) ≡ above_three (counted o) (counted p) (counted q)
+counted_three : (o p q : Option ℕ) → counted (given o (λ a. given p (λ b. given q (λ c. Some (suc (max a (max b c))))))) ≡ above (deeper (counted o) (deeper (counted p) (counted q)))
 counted_three None p q = refl
 counted_three (Some a) None q = refl
 counted_three (Some a) (Some b) None = refl
 counted_three (Some a) (Some b) (Some c) = ap Some (omega arith)
-
--- a part that stands before, or none
-if_two : (b d : Bool) (o p : Option ℕ) → above_two (cond b o None) (cond d p None) ≡ cond (b && d) (above_two o p) None
-if_two true true o p = refl
-if_two true false None p = refl
-if_two true false (Some a) p = refl
-if_two false d o p = refl
-
-if_one : (b : Bool) (o : Option ℕ) → above_one (cond b o None) ≡ cond b (above_one o) None
-if_one true o = refl
-if_one false o = refl
-
-if_three : (b d e : Bool) (o p q : Option ℕ) → above_three (cond b o None) (cond d p None) (cond e q None) ≡ cond (b && (d && e)) (above_three o p q) None
-if_three false d e o p q = refl
-if_three true false e None p q = refl
-if_three true false e (Some a) p q = refl
-if_three true true true o p q = refl
-if_three true true false None p q = refl
-if_three true true false (Some a) None q = refl
-if_three true true false (Some a) (Some b) q = refl
 
 module _ (L : ℕ → Line) where
   abbrev pub expression_deep : ℕ → Option ℕ
@@ -158,40 +139,39 @@ module _ (L : ℕ → Line) where
     abbrev at : ℕ → Part
     at m = get_or (grow grown L n) m other
 
-    before : (F : Part → Option ℕ) → F other ≡ None → (m : ℕ) → F (at m) ≡ cond (ltb m n) (F (part L m)) None
+    before : (F : Part → Option ℕ) → F other ≡ None → (m : ℕ) → F (at m) ≡ if_below n m (F (part L m))
     before F e m = elim (cases_lt m n) [
       | inl w ↦ ap F (grow_at grown L other n m w) ∙ sym (ap (λ b. cond b (F (part L m)) None) (lt-ltb m n w))
       | inr w ↦ ap F (grow_beyond grown L other n m w) ∙ (e ∙ sym (ap (λ b. cond b (F (part L m)) None) (le-ltb m n w)))
     ]
 
-    E : (m : ℕ) → counted (as_expression_deep (at m)) ≡ cond (ltb m n) (expression_deep m) None
+    E : (m : ℕ) → counted (as_expression_deep (at m)) ≡ if_below n m (expression_deep m)
     E m = before (λ P. counted (as_expression_deep P)) refl m
 
-    C : (m : ℕ) → counted (as_condition_deep (at m)) ≡ cond (ltb m n) (condition_deep m) None
+    C : (m : ℕ) → counted (as_condition_deep (at m)) ≡ if_below n m (condition_deep m)
     C m = before (λ P. counted (as_condition_deep P)) refl m
 
-    one : (o X : Option ℕ) (b : Bool) → counted o ≡ cond b X None → counted (given o (λ a. Some (suc a))) ≡ cond b (above_one X) None
-    one o X b e = counted_one o ∙ (ap above_one e ∙ if_one b X)
+    one : (o X : Option ℕ) → counted o ≡ X → counted (given o (λ a. Some (suc a))) ≡ above X
+    one o X e = counted_one o ∙ ap above e
 
-    two : (o p X Y : Option ℕ) (b d : Bool) → counted o ≡ cond b X None → counted p ≡ cond d Y None
-        → counted (given o (λ a. given p (λ c. Some (suc (max a c))))) ≡ cond (b && d) (above_two X Y) None
-    two o p X Y b d e f = counted_two o p ∙ (ap₂ above_two e f ∙ if_two b d X Y)
+    two : (o p X Y : Option ℕ) → counted o ≡ X → counted p ≡ Y → counted (given o (λ a. given p (λ c. Some (suc (max a c))))) ≡ above (deeper X Y)
+    two o p X Y e f = counted_two o p ∙ ap above (ap₂ deeper e f)
 
-    three : (o p q X Y Z : Option ℕ) (b d i : Bool) → counted o ≡ cond b X None → counted p ≡ cond d Y None → counted q ≡ cond i Z None
-        → counted (given o (λ a. given p (λ c. given q (λ u. Some (suc (max a (max c u))))))) ≡ cond (b && (d && i)) (above_three X Y Z) None
-    three o p q X Y Z b d i e f g = counted_three o p q ∙ ((λ j. above_three (e j) (f j) (g j)) ∙ if_three b d i X Y Z)
+    three : (o p q X Y Z : Option ℕ) → counted o ≡ X → counted p ≡ Y → counted q ≡ Z
+        → counted (given o (λ a. given p (λ c. given q (λ u. Some (suc (max a (max c u))))))) ≡ above (deeper X (deeper Y Z))
+    three o p q X Y Z e f g = counted_three o p q ∙ ap above (ap₂ deeper e (ap₂ deeper f g))
 
     expression_cases : (l : Line) → counted (as_expression_deep (grown n (grow grown L n) l)) ≡ expression_step expression_deep condition_deep n l
     expression_cases (Line.Global a b) = refl
     expression_cases (Line.Constant k) = refl
     expression_cases (Line.Simple a) = refl
     expression_cases (Line.Element a b) = ap counted (by_expression as_expression_deep refl (at b) _ (λ u. Some (suc (u))) (λ x. refl))
-        ∙ one (as_expression_deep (at b)) (expression_deep b) (ltb b n) (E b)
+        ∙ one (as_expression_deep (at b)) _ (E b)
     expression_cases (Line.Operation o a b) = ap counted (by_expression as_expression_deep refl (at a) _ (λ u. given (as_expression_deep (at b)) (λ v. Some (suc (max u v)))) (λ x. by_expression as_expression_deep refl (at b) _ (λ v. Some (suc (max (expression_depth x) v))) (λ y. refl)))
-        ∙ two (as_expression_deep (at a)) (as_expression_deep (at b)) (expression_deep a) (expression_deep b) (ltb a n) (ltb b n) (E a) (E b)
+        ∙ two (as_expression_deep (at a)) (as_expression_deep (at b)) _ _ (E a) (E b)
     expression_cases (Line.Comparison r a b) = ap counted (no_expression as_expression_deep refl (at a) _ (λ x. no_expression as_expression_deep refl (at b) _ (λ y. refl)))
     expression_cases (Line.Choice a b c) = ap counted (by_condition as_expression_deep refl (at a) _ (λ u. given (as_expression_deep (at b)) (λ v. given (as_expression_deep (at c)) (λ w. Some (suc (max u (max v w)))))) (λ x. by_expression as_expression_deep refl (at b) _ (λ v. given (as_expression_deep (at c)) (λ w. Some (suc (max (condition_depth x) (max v w))))) (λ y. by_expression as_expression_deep refl (at c) _ (λ w. Some (suc (max (condition_depth x) (max (expression_depth y) w)))) (λ z. refl))))
-        ∙ three (as_condition_deep (at a)) (as_expression_deep (at b)) (as_expression_deep (at c)) (condition_deep a) (expression_deep b) (expression_deep c) (ltb a n) (ltb b n) (ltb c n) (C a) (E b) (E c)
+        ∙ three (as_condition_deep (at a)) (as_expression_deep (at b)) (as_expression_deep (at c)) _ _ _ (C a) (E b) (E c)
     expression_cases (Line.Truth b) = refl
     expression_cases (Line.Negation a) = ap counted (no_condition as_expression_deep refl (at a) _ (λ x. refl))
     expression_cases (Line.Implication a b) = ap counted (no_condition as_expression_deep refl (at a) _ (λ x. no_condition as_expression_deep refl (at b) _ (λ y. refl)))
@@ -215,13 +195,13 @@ module _ (L : ℕ → Line) where
     condition_cases (Line.Element a b) = ap counted (no_expression as_condition_deep refl (at b) _ (λ x. refl))
     condition_cases (Line.Operation o a b) = ap counted (no_expression as_condition_deep refl (at a) _ (λ x. no_expression as_condition_deep refl (at b) _ (λ y. refl)))
     condition_cases (Line.Comparison r a b) = ap counted (by_expression as_condition_deep refl (at a) _ (λ u. given (as_expression_deep (at b)) (λ v. Some (suc (max u v)))) (λ x. by_expression as_condition_deep refl (at b) _ (λ v. Some (suc (max (expression_depth x) v))) (λ y. refl)))
-        ∙ two (as_expression_deep (at a)) (as_expression_deep (at b)) (expression_deep a) (expression_deep b) (ltb a n) (ltb b n) (E a) (E b)
+        ∙ two (as_expression_deep (at a)) (as_expression_deep (at b)) _ _ (E a) (E b)
     condition_cases (Line.Choice a b c) = ap counted (no_condition as_condition_deep refl (at a) _ (λ x. no_expression as_condition_deep refl (at b) _ (λ y. no_expression as_condition_deep refl (at c) _ (λ z. refl))))
     condition_cases (Line.Truth b) = refl
     condition_cases (Line.Negation a) = ap counted (by_condition as_condition_deep refl (at a) _ (λ u. Some (suc (u))) (λ x. refl))
-        ∙ one (as_condition_deep (at a)) (condition_deep a) (ltb a n) (C a)
+        ∙ one (as_condition_deep (at a)) _ (C a)
     condition_cases (Line.Implication a b) = ap counted (by_condition as_condition_deep refl (at a) _ (λ u. given (as_condition_deep (at b)) (λ v. Some (suc (max u v)))) (λ x. by_condition as_condition_deep refl (at b) _ (λ v. Some (suc (max (condition_depth x) v))) (λ y. refl)))
-        ∙ two (as_condition_deep (at a)) (as_condition_deep (at b)) (condition_deep a) (condition_deep b) (ltb a n) (ltb b n) (C a) (C b)
+        ∙ two (as_condition_deep (at a)) (as_condition_deep (at b)) _ _ (C a) (C b)
     condition_cases (Line.Assignment a b) = ap counted (no_place as_condition_deep refl (at a) _ (λ x. no_expression as_condition_deep refl (at b) _ (λ y. refl)))
     condition_cases (Line.Sequence a b) = ap counted (no_statement as_condition_deep refl (at a) _ (λ x. no_statement as_condition_deep refl (at b) _ (λ y. refl)))
     condition_cases (Line.Branch a b c) = ap counted (no_condition as_condition_deep refl (at a) _ (λ x. no_statement as_condition_deep refl (at b) _ (λ y. no_statement as_condition_deep refl (at c) _ (λ z. refl))))
@@ -287,6 +267,10 @@ abbrev pub either_over : Option ℕ → Option ℕ → Bool
 either_over (Some d) o = ltb deepest_allowed d
 either_over None (Some d) = ltb deepest_allowed d
 either_over None None = false
+
+pub over_none : (o : Option ℕ) → tested (ltb 64) o ≡ either_over None o
+over_none None = refl
+over_none (Some d) = refl
 
 counted_over : (d : ℕ) → ltb deepest_allowed d ≡ ltb deepest_allowed (min 255 d)
 counted_over d = elim (cases_lt deepest_allowed d) [

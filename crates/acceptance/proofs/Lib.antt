@@ -1,9 +1,10 @@
 pub mod Lines
 pub mod Search
+pub mod Optional
 pub mod Naming
 pub mod Globals
 pub mod Depths
 pub mod Around
 pub mod Listed
 pub mod Known
-mod Stages
+pub mod Stages

@@ -1,10 +1,10 @@
 -- Whether a line is named, and the counts that the tests take.
-use Rattle.std.proofs.Common.{◌≡◌, ℕ, zero, suc, ◌+◌, ◌<◌, Bool, true, false, not, ◌||◌, eqb, ltb, List, [], ◌∷◌, ◌++◌, sym, refl, ap, ◌∙◌, ap₂, inl, inr, add-one, arith}
-use Rattle.std.proofs.lemmas.Bool.{cases_eq, lt-ltb, ne_eqb, or_right}
+use Rattle.std.proofs.Common.{◌≡◌, ℕ, zero, suc, ◌+◌, Bool, true, false, not, ◌||◌, eqb, ltb, List, [], ◌∷◌, ◌++◌, sym, refl, ap, ◌∙◌, ap₂, arith}
+use Rattle.std.proofs.lemmas.Bool.{lt-ltb, ne_eqb}
 use Rattle.lines.specs.declared.records.Line.{Line}
 use Rattle.script.specs.Fields.{fields, named_in}
 use Rattle.script.specs.Lists.{one, times}
-use Rattle.script.specs.Tests.{again, named}
+use Rattle.script.specs.Tests.{again, any_below, named}
 use Rattle.acceptance.specs.Naming.{stands, stands_again}
 
 one_or : (b : Bool) (t : ℕ) → ltb 0 (one b + t) ≡ (b || ltb 0 t)
@@ -34,16 +34,15 @@ stands_append : (m : ℕ) (xs ys : List ℕ) → stands m (xs ++ ys) ≡ (stands
 stands_append m [] ys = refl
 stands_append m (x ∷ xs) ys = ap (λ b. eqb x m || b) (stands_append m xs ys) ∙ sym (or_assoc (eqb x m) (stands m xs) (stands m ys))
 
-module _ (L : ℕ → Line) (m : ℕ) where
-  abbrev here : ℕ → List ℕ
-  here k = named_in (fields (L k))
+or_comm : (a b : Bool) → (a || b) ≡ (b || a)
+or_comm true true = refl
+or_comm true false = refl
+or_comm false true = refl
+or_comm false false = refl
 
-  pub stands_further : (k : ℕ) → stands m (named L k) ≡ false → stands m (here k) ≡ false → stands m (named L (k + 1)) ≡ false
-  stands_further k p q = ap (λ j. stands m (named L j)) (add-one k) ∙ (stands_append m (named L k) (here k) ∙ ap₂ ◌||◌ p q)
-
-  pub stands_found : (k n : ℕ) → k < n → stands m (here k) ≡ true → stands m (named L n) ≡ true
-  stands_found k zero q h = absurd (omega arith)
-  stands_found k (suc n) q h = stands_append m (named L n) (here n) ∙ elim (cases_eq k n) [
-    | inl w ↦ or_right (stands m (named L n)) (stands m (here n)) (ap (λ j. stands m (here j)) (sym w) ∙ h)
-    | inr w ↦ ap (λ b. b || stands m (here n)) (stands_found k n (omega arith) h)
-  ]
+-- a line below n names m
+pub any_names : (L : ℕ → Line) (m n : ℕ) → any_below (λ k. stands m (named_in (fields (L k)))) n ≡ stands m (named L n)
+any_names L m zero = refl
+any_names L m (suc n) =
+    ap (λ b. stands m (named_in (fields (L n))) || b) (any_names L m n)
+    ∙ (or_comm (stands m (named_in (fields (L n)))) (stands m (named L n)) ∙ sym (stands_append m (named L n) (named_in (fields (L n)))))

@@ -6,7 +6,8 @@ use Rattle.script.specs.Tree.{line, part}
 use Rattle.script.specs.Apart.{past_globals}
 use Rattle.script.specs.Depth.{deepest_allowed, depth}
 use Rattle.script.specs.Causes.{name_again, number_of, out_of_form, undeclared}
-use Rattle.acceptance.specs.declared.verdict.SheetRefusal.{SheetRefusal}
+use Rattle.lines.specs.declared.refusals.Refusal.{Refusal}
+use Rattle.acceptance.specs.declared.verdict.SheetCause.{SheetCause}
 use Rattle.acceptance.specs.Verdict.{reason_of, told, Judged, found, by_kind, by_form}
 use Rattle.script.proofs.Verdict.{accepted_exactly}
 use Rattle.script.specs.Tests.{finds_fault, lowest, or_here, or_later, over_deep, refusal}
@@ -69,9 +70,18 @@ module _ (low high : ℤ) (ls : List Line) where
   pub staged_refusal : by_form low high ls ≡ refusal low high ls
   staged_refusal = go (found low high ls out_of_form) refl
 
-  judged : {A : Type 0} (r : Result A SheetRefusal) → told r ≡ refusal low high ls → Judged low high ls r
+  judged : {A : Type 0} (r : Result A (Refusal SheetCause)) → told r ≡ refusal low high ls → Judged low high ls r
   judged (Ok a) e = (accepted_exactly low high ls).0.0 (sym e)
   judged (Err f) e = (((accepted_exactly low high ls).1 (number_of (reason_of f.cause)) f.line).0 (sym e), λ s. refused_none _ (e ∙ (accepted_exactly low high ls).0.1 s))
 
-  pub right : {A : Type 0} (r : Result A SheetRefusal) → told r ≡ by_form low high ls → Judged low high ls r × (told r ≡ refusal low high ls)
+  pub right : {A : Type 0} (r : Result A (Refusal SheetCause)) → told r ≡ by_form low high ls → Judged low high ls r × (told r ≡ refusal low high ls)
   right r e = let t : told r ≡ refusal low high ls = e ∙ staged_refusal in (judged r t, t)
+
+-- a check that lets the sheet pass leaves it to the later ones, and one that refuses it is the last
+pub passed : (n : ℕ) (o f : Option ℕ) (later t : Option (ℕ × ℕ)) → o ≡ f → None ≡ or_later n o None → t ≡ later → t ≡ or_later n f later
+passed n (Some k) f later t e h i = absurd (refused_none _ (sym h))
+passed n None f later t e h i = i ∙ ap (λ g. or_later n g later) e
+
+pub stopped : (n : ℕ) (o f : Option ℕ) (later : Option (ℕ × ℕ)) (p : ℕ × ℕ) → o ≡ f → Some p ≡ or_later n o None → Some p ≡ or_later n f later
+stopped n (Some k) f later p e h = h ∙ ap (λ g. or_later n g later) e
+stopped n None f later p e h = absurd (refused_none _ h)

@@ -1,5 +1,5 @@
 -- The depths that the program counts: of the part at a line, where it is an expression or a condition, and no further than 255.
-use Rattle.std.specs.Prelude.{ℕ, suc, min, max, Some, None, Option}
+use Rattle.std.specs.Prelude.{ℕ, suc, min, max, Some, None, Option, cond, nat_lt}
 use Rattle.lines.specs.Ranges.{given}
 use Rattle.script.specs.Tree.{Part, condition, declarations, expression, other, place, statement}
 use Rattle.script.specs.Depth.{condition_depth, expression_depth, place_depth}
@@ -26,12 +26,14 @@ as_condition_deep other = None
 abbrev pub counted : Option ℕ → Option ℕ
 counted o = given o (λ d. Some (min 255 d))
 
--- one more than the deepest of some parts, where all of them are there
-abbrev pub above_one : Option ℕ → Option ℕ
-above_one o = given o (λ a. Some (min 255 (suc a)))
+-- one more than a depth that is there
+abbrev pub above : Option ℕ → Option ℕ
+above o = given o (λ a. Some (min 255 (suc a)))
 
-abbrev pub above_two : Option ℕ → Option ℕ → Option ℕ
-above_two o p = given o (λ a. given p (λ b. Some (min 255 (suc (max a b)))))
+-- the greater of two depths, where both are there
+abbrev pub deeper : Option ℕ → Option ℕ → Option ℕ
+deeper o p = given o (λ a. given p (λ b. Some (max a b)))
 
-abbrev pub above_three : Option ℕ → Option ℕ → Option ℕ → Option ℕ
-above_three o p q = given o (λ a. given p (λ b. given q (λ c. Some (min 255 (suc (max a (max b c)))))))
+-- what there is of line m, where m is below n
+abbrev pub if_below : ℕ → ℕ → Option ℕ → Option ℕ
+if_below n m o = cond (nat_lt m n) o None

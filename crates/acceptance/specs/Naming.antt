@@ -1,5 +1,7 @@
--- Whether a line is named, as the program asks it. Nothing here needs to be believed: the contracts of src/form cite the tests of the crate script.
-use Rattle.std.specs.Prelude.{ℕ, Bool, false, ◌||◌, List, [], ◌∷◌, ◌==◌}
+-- Whether a line is named and by which, as the program asks it. Nothing here needs to be believed: the contracts of src/form cite the tests of the crate script.
+use Rattle.std.specs.Prelude.{ℕ, Bool, false, ◌||◌, List, [], ◌∷◌, Some, None, Option, ◌==◌}
+use Rattle.lines.specs.declared.records.Line.{Line}
+use Rattle.script.specs.Tests.{under}
 
 -- m is one of the numbers
 abbrev pub stands : ℕ → List ℕ → Bool
@@ -10,3 +12,13 @@ stands m (x ∷ xs) = x == m || stands m xs
 abbrev pub stands_again : List ℕ → List ℕ → Bool
 stands_again before [] = false
 stands_again before (m ∷ ms) = stands m before || stands_again (m ∷ before) ms
+
+-- the number that `user` of the crate script has for a line that may be there
+abbrev pub line_of_user : Option ℕ → ℕ
+line_of_user None = 0
+line_of_user (Some n) = n
+
+-- the procedures under a line that may be there
+abbrev pub under_some : (ℕ → Line) → Option ℕ → List (ℕ × ℕ)
+under_some L None = []
+under_some L (Some n) = under L n

@@ -8,7 +8,7 @@ use Rattle.script.specs.Causes.{Refused}
 use Rattle.script.specs.Tests.{finds_fault, lowest, or_later}
 use Rattle.acceptance.specs.declared.verdict.SheetCause.{SheetCause}
 use Rattle.acceptance.specs.declared.verdict.SheetCause.TheVariants.{OutOfForm, NameAgain, Undeclared, TooDeep, OutOfKind}
-use Rattle.acceptance.specs.declared.verdict.SheetRefusal.{SheetRefusal}
+use Rattle.lines.specs.declared.refusals.Refusal.{Refusal}
 use Rattle.script.specs.Causes.{Reason, name_again, number_of, out_of_form, out_of_kind, too_deep, undeclared}
 
 -- the cause that each answer stands for; its number is the one that the causes of a script's refusal have
@@ -28,12 +28,12 @@ meaning_of TooDeep = codes "nested deeper than 64"
 meaning_of OutOfKind = codes "a constant outside the number kind"
 
 -- the number and the line of a refusal; none where the sheet is accepted
-abbrev pub told : {A : Type 0} → Result A SheetRefusal → Option (ℕ × ℕ)
+abbrev pub told : {A : Type 0} → Result A (Refusal SheetCause) → Option (ℕ × ℕ)
 told (Ok a) = None
 told (Err f) = Some (number_of (reason_of f.cause), f.line)
 
 -- The answer is right for the number kind with the constants from low to high: the lines are a script; or they are none, and are refused for that number and line.
-abbrev pub Judged : {A : Type 0} → ℤ → ℤ → List Line → Result A SheetRefusal → Type 0
+abbrev pub Judged : {A : Type 0} → ℤ → ℤ → List Line → Result A (Refusal SheetCause) → Type 0
 Judged low high ls (Ok a) = IsScript low high ls
 Judged low high ls (Err f) = Refused low high ls (number_of (reason_of f.cause)) f.line × (IsScript low high ls → ⊥)
 

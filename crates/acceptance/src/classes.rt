@@ -1,14 +1,13 @@
 // What a line is in the text, and which lines it names.
-ghost use Rattle.std.specs.Prelude.{◌≡◌};
-ghost use Rattle.script.specs.Fields.{class_of, fields, fits, is_nothing};
+ghost use Rattle.std.specs.Prelude.{◌≡◌, Some};
+ghost use Rattle.script.specs.Fields.{class_of, fields, fits};
 ghost use Rattle.acceptance.specs.Classes.{class_meant, field_meant, fields_meant};
 
 use lines::records::{Line, LineNumber};
 
-// What a line is in the text; a global is no part of it.
-#[derive(Clone, Copy)]
+// What a line is in the text.
+#[derive(Clone, Copy, PartialEq, Eq)]
 pub(crate) enum Class {
-    Nothing,
     Place,
     Expression,
     Condition,
@@ -32,53 +31,46 @@ pub(crate) enum LineFields {
     Three(LineField, LineField, LineField),
 }
 
-pub(crate) fn class_of(line: Line) -> Class
+// What a line is; a global is no part of the text.
+pub(crate) fn class_of(line: Line) -> Option<Class>
     ensures { class_meant result ≡ class_of line }
 {
     match line {
-        Line::Global { .. } => Class::Nothing,
-        Line::Simple { .. } | Line::Element { .. } => Class::Place,
-        Line::Constant { .. } | Line::Operation { .. } | Line::Choice { .. } => Class::Expression,
+        Line::Global { .. } => None,
+        Line::Simple { .. } | Line::Element { .. } => Some(Class::Place),
+        Line::Constant { .. } | Line::Operation { .. } | Line::Choice { .. } => Some(
+            Class::Expression,
+        ),
         Line::Truth { .. }
         | Line::Comparison { .. }
         | Line::Negation { .. }
-        | Line::Implication { .. } => Class::Condition,
-        Line::Procedure { .. } | Line::Join { .. } => Class::Declarations,
+        | Line::Implication { .. } => Some(Class::Condition),
+        Line::Procedure { .. } | Line::Join { .. } => Some(Class::Declarations),
         Line::Assignment { .. }
         | Line::Sequence { .. }
         | Line::Branch { .. }
         | Line::Call { .. }
         | Line::NewSimple { .. }
         | Line::NewArray { .. }
-        | Line::System { .. } => Class::Statement,
+        | Line::System { .. } => Some(Class::Statement),
     }
 }
 
 impl Class {
-    pub(crate) fn is_nothing(self) -> bool
-        ensures { result ≡ is_nothing (class_meant self) }
-    {
-        matches!(self, Class::Nothing)
-    }
-
     // Whether a line of the class `found` may stand where this class is wanted: a variable stands for the expression that its word is.
-    pub(crate) fn fits(self, found: Class) -> bool
-        ensures { result ≡ fits (class_meant self) (class_meant found) }
+    pub(crate) fn fits(self, found: Option<Class>) -> bool
+        ensures { result ≡ fits (class_meant (Some self)) (class_meant found) }
     {
         match (self, found) {
-            (Class::Place, Class::Place) => true,
-            (Class::Expression, Class::Expression) => true,
-            (Class::Expression, Class::Place) => true,
-            (Class::Condition, Class::Condition) => true,
-            (Class::Statement, Class::Statement) => true,
-            (Class::Declarations, Class::Declarations) => true,
-            _ => false,
+            (Class::Expression, Some(Class::Place)) => true,
+            (wanted, Some(found)) => wanted == found,
+            (_, None) => false,
         }
     }
 }
 
 fn of(wanted: Class, line: LineNumber) -> LineField
-    ensures { field_meant result ≡ (class_meant wanted, line) }
+    ensures { field_meant result ≡ (class_meant (Some wanted), line) }
 {
     LineField { wanted, line }
 }

@@ -1,165 +1,117 @@
 // How deep expressions and conditions are nested.
-ghost use Rattle.std.specs.Prelude.{◌≡◌, nat_lt};
+ghost use Rattle.std.specs.Prelude.{◌≡◌, ◌<◌, ◌≤◌, suc, length, nat_lt, MatchOption};
 ghost use Rattle.script.specs.Tree.{line, part};
 ghost use Rattle.script.specs.Depth.{deepest_allowed, depth};
-ghost use Rattle.acceptance.specs.Sheet.{lines_of};
-ghost use Rattle.acceptance.specs.Depths.{above_one, above_two, above_three, as_condition_deep, as_expression_deep, counted};
+ghost use Rattle.script.specs.Tests.{lowest};
+ghost use Rattle.acceptance.specs.Depths.{above, deeper, as_condition_deep, as_expression_deep, counted, if_below};
 
-use crate::lowest::Fault;
-use crate::sheet::line_at;
-use lines::records::{Line, Record};
-
-// One more than the depth of a part; depths are counted up to 255.
-fn above_one(a: Option<u8>) -> Option<u8>
-    ensures { result ≡ above_one a }
-{
-    let a = a?;
-    Some(a.saturating_add(1))
-}
-
-fn above_two(a: Option<u8>, b: Option<u8>) -> Option<u8>
-    ensures { result ≡ above_two a b }
-{
-    let a = a?;
-    let b = b?;
-    Some(a.max(b).saturating_add(1))
-}
-
-fn above_three(a: Option<u8>, b: Option<u8>, c: Option<u8>) -> Option<u8>
-    ensures { result ≡ above_three a b c }
-{
-    let a = a?;
-    let b = b?;
-    let c = c?;
-    Some(a.max(b.max(c)).saturating_add(1))
-}
-
-// The depth of the expression at line n, where the lines there are one: its sort is checked on the way down.
-#[cycle(condition_depth_expression_depth)]
-pub(crate) fn expression_depth(records: &[Record], n: usize) -> Option<u8>
-    ensures { result ≡ counted (as_expression_deep (part (line (lines_of records.now)) n)) }
-{
-    match line_at(records, n) {
-        Line::Constant { .. } => Some(1),
-        Line::Simple { .. } => Some(1),
-        Line::Element { index, .. } => {
-            let index = index as usize;
-            if index < n {
-                above_one(expression_depth(records, index))
-            } else {
-                None
-            }
-        }
-        Line::Operation { left, right, .. } => {
-            let left = left as usize;
-            let right = right as usize;
-            if left < n && right < n {
-                above_two(
-                    expression_depth(records, left),
-                    expression_depth(records, right),
-                )
-            } else {
-                None
-            }
-        }
-        Line::Choice {
-            condition,
-            chosen,
-            otherwise,
-        } => {
-            let condition = condition as usize;
-            let chosen = chosen as usize;
-            let otherwise = otherwise as usize;
-            if condition < n && chosen < n && otherwise < n {
-                above_three(
-                    condition_depth(records, condition),
-                    expression_depth(records, chosen),
-                    expression_depth(records, otherwise),
-                )
-            } else {
-                None
-            }
-        }
-        _ => None,
-    }
-}
-
-// The depth of the condition at line n, where the lines there are one.
-#[cycle(condition_depth_expression_depth)]
-pub(crate) fn condition_depth(records: &[Record], n: usize) -> Option<u8>
-    ensures { result ≡ counted (as_condition_deep (part (line (lines_of records.now)) n)) }
-{
-    match line_at(records, n) {
-        Line::Truth { .. } => Some(1),
-        Line::Comparison { left, right, .. } => {
-            let left = left as usize;
-            let right = right as usize;
-            if left < n && right < n {
-                above_two(
-                    expression_depth(records, left),
-                    expression_depth(records, right),
-                )
-            } else {
-                None
-            }
-        }
-        Line::Negation { condition } => {
-            let condition = condition as usize;
-            if condition < n {
-                above_one(condition_depth(records, condition))
-            } else {
-                None
-            }
-        }
-        Line::Implication {
-            premise,
-            conclusion,
-        } => {
-            let premise = premise as usize;
-            let conclusion = conclusion as usize;
-            if premise < n && conclusion < n {
-                above_two(
-                    condition_depth(records, premise),
-                    condition_depth(records, conclusion),
-                )
-            } else {
-                None
-            }
-        }
-        _ => None,
-    }
-}
+use crate::sheet::Sheet;
+use lines::records::{Line, LineNumber};
 
 // The deepest that an expression or a condition may be.
 const DEEPEST: u8 = 64;
 
-fn is_over(depth: u8) -> bool
-    ensures { result ≡ nat_lt deepest_allowed depth }
+// One more than a depth; depths are counted up to 255.
+fn above(depth: Option<u8>) -> Option<u8>
+    ensures { result ≡ above depth }
 {
-    DEEPEST < depth
+    depth.map(|depth| depth.saturating_add(1))
 }
 
-// Whether the expression or condition at line n is too deep.
-fn is_too_deep(records: &[Record], n: usize) -> bool
-    ensures { result ≡ nat_lt deepest_allowed (depth (part (line (lines_of records.now)) n)) }
+// The greater of two depths, where both are there.
+fn deeper(a: Option<u8>, b: Option<u8>) -> Option<u8>
+    ensures { result ≡ deeper a b }
 {
-    match expression_depth(records, n) {
-        Some(deep) => is_over(deep),
-        None => match condition_depth(records, n) {
-            Some(deep) => is_over(deep),
-            None => false,
-        },
+    Some(a?.max(b?))
+}
+
+impl<'a> Sheet<'a> {
+    // The depth of the expression at line m, where line n may name it.
+    #[cycle(condition_depth_expression_depth)]
+    fn expression_below(&self, n: usize, m: LineNumber) -> Option<u8>
+        ensures { result ≡ if_below n m (counted (as_expression_deep (part (line self.now) m))) }
+    {
+        let m = m as usize;
+        if m < n {
+            self.expression_depth(m)
+        } else {
+            None
+        }
     }
-}
 
-// An expression or a condition that is too deep.
-#[derive(Clone, Copy)]
-pub(crate) struct TooDeep;
+    // The depth of the condition at line m, where line n may name it.
+    #[cycle(condition_depth_expression_depth)]
+    fn condition_below(&self, n: usize, m: LineNumber) -> Option<u8>
+        ensures { result ≡ if_below n m (counted (as_condition_deep (part (line self.now) m))) }
+    {
+        let m = m as usize;
+        if m < n { self.condition_depth(m) } else { None }
+    }
 
-impl Fault for TooDeep {
-    ghost test = { λ f ls n. nat_lt deepest_allowed (depth (part (line ls) n)) };
+    // The depth of the expression at line n, where the lines there are one: its sort is checked on the way down.
+    #[cycle(condition_depth_expression_depth)]
+    fn expression_depth(&self, n: usize) -> Option<u8>
+        ensures { result ≡ counted (as_expression_deep (part (line self.now) n)) }
+    {
+        match self.line(n) {
+            Line::Constant { .. } | Line::Simple { .. } => Some(1),
+            Line::Element { index, .. } => above(self.expression_below(n, index)),
+            Line::Operation { left, right, .. } => above(deeper(
+                self.expression_below(n, left),
+                self.expression_below(n, right),
+            )),
+            Line::Choice {
+                condition,
+                chosen,
+                otherwise,
+            } => above(deeper(
+                self.condition_below(n, condition),
+                deeper(
+                    self.expression_below(n, chosen),
+                    self.expression_below(n, otherwise),
+                ),
+            )),
+            _ => None,
+        }
+    }
 
-    fn has(&self, records: &[Record], n: usize) -> bool {
-        is_too_deep(records, n)
+    // The depth of the condition at line n, where the lines there are one.
+    #[cycle(condition_depth_expression_depth)]
+    fn condition_depth(&self, n: usize) -> Option<u8>
+        ensures { result ≡ counted (as_condition_deep (part (line self.now) n)) }
+    {
+        match self.line(n) {
+            Line::Truth { .. } => Some(1),
+            Line::Comparison { left, right, .. } => above(deeper(
+                self.expression_below(n, left),
+                self.expression_below(n, right),
+            )),
+            Line::Negation { condition } => above(self.condition_below(n, condition)),
+            Line::Implication {
+                premise,
+                conclusion,
+            } => above(deeper(
+                self.condition_below(n, premise),
+                self.condition_below(n, conclusion),
+            )),
+            _ => None,
+        }
+    }
+
+    // Whether the expression or condition at line n is too deep.
+    fn is_too_deep(&self, n: usize) -> bool
+        ensures { result ≡ nat_lt deepest_allowed (depth (part (line self.now) n)) }
+    {
+        match self.expression_depth(n) {
+            Some(depth) => DEEPEST < depth,
+            None => self.condition_depth(n).is_some_and(|depth| DEEPEST < depth),
+        }
+    }
+
+    // The lowest line with an expression or a condition that is too deep.
+    pub(crate) fn lowest_too_deep(&self) -> Option<usize>
+        ensures { result ≡ lowest (λ n. nat_lt deepest_allowed (depth (part (line self.now) n))) (suc (length self.now)) }
+    {
+        self.numbers().find(|n| self.is_too_deep(*n))
     }
 }

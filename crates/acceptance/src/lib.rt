@@ -1,12 +1,10 @@
 // Whether the lines of a sheet are a script together: the checks of the whole sheet.
 #![tactic(auto)]
 
-mod checks;
 mod classes;
 mod constants;
 mod depth;
 mod form;
-mod lowest;
 mod names;
 mod scopes;
 mod sheet;

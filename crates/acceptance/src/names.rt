@@ -1,16 +1,14 @@
-// Names: which are declared twice, and which are not declared.
-ghost use Rattle.std.specs.Prelude.{◌≡◌, suc, ◌&&◌, length, nat_lt};
+// Names: which are declared twice, and whose a line's part is.
+ghost use Rattle.std.specs.Prelude.{◌≡◌, suc, ◌<◌, ◌&&◌, length, nat_lt, IfSome};
 ghost use Rattle.script.specs.Tree.{line};
 ghost use Rattle.script.specs.Apart.{as_global};
 ghost use Rattle.script.specs.IsScript.{same_sort};
-ghost use Rattle.script.specs.Tests.{fellows_by_lines, global_again, name_twice, procedure_again, same_global, taken_before, under};
+ghost use Rattle.script.specs.Tests.{fellows_by_lines, global_again, lowest, name_twice, procedure_again, same_global, taken_before, under};
 ghost use Rattle.script.specs.Around.{user};
-ghost use Rattle.acceptance.specs.Sheet.{lines_of};
+ghost use Rattle.acceptance.specs.Naming.{line_of_user, under_some};
 
-use crate::form::names_line;
-use crate::lowest::Fault;
-use crate::sheet::{line_at, line_count};
-use lines::records::{Line, Name, Record};
+use crate::sheet::Sheet;
+use lines::records::{Line, Name};
 
 // Whether two globals of these lengths are both simple or both arrays.
 fn same_sort(a: u16, b: u16) -> bool
@@ -36,97 +34,102 @@ fn same_global(a: Line, b: Line) -> bool
     name == other_name && same_sort(length, other_length)
 }
 
-// Whether line m is a global that line n declares again.
-fn is_declared_again(records: &[Record], m: usize, n: usize) -> bool
-    ensures { result ≡ (nat_lt 0 m && same_global (as_global (line (lines_of records.now) m)) (as_global (line (lines_of records.now) n))) }
-{
-    0 < m && same_global(line_at(records, m), line_at(records, n))
-}
+impl<'a> Sheet<'a> {
+    // Whether line m is a global that line n declares again.
+    fn is_declared_again(&self, m: usize, n: usize) -> bool
+        ensures { result ≡ (nat_lt 0 m && same_global (as_global (line self.now m)) (as_global (line self.now n))) }
+    {
+        0 < m && same_global(self.line(m), self.line(n))
+    }
 
-// Whether line n is a global with the name of an earlier one of its sort.
-fn global_again(records: &[Record], n: usize) -> bool
-    ensures { result ≡ global_again (line (lines_of records.now)) n }
-{
-    for m in 0..n {
-        if is_declared_again(records, m, n) {
-            return true;
+    // Whether line n is a global with the name of an earlier one of its sort.
+    fn is_global_again(&self, n: usize) -> bool
+        ensures { result ≡ global_again (line self.now) n }
+    {
+        (0..n).any(|m| self.is_declared_again(m, n))
+    }
+
+    // The line that names line m; the last of them where more do.
+    pub(crate) fn user(&self, m: usize) -> Option<usize>
+        ensures user { line_of_user result ≡ user (line self.now) (suc (length self.now)) m }
+        ensures counted { IfSome result (λ k. 0 < k) }
+    {
+        for k in self.numbers().rev() {
+            if self.names(k, m) {
+                return Some(k);
+            }
+        }
+        None
+    }
+
+    // Whether the declarations at line a have a procedure of that name on a line before n.
+    pub(crate) fn is_taken(&self, a: usize, n: usize, name: Name) -> bool
+        ensures { result ≡ taken_before n name (under (line self.now) a) }
+    {
+        match self.line(a) {
+            Line::Procedure { name: other, .. } => a < n && other == name,
+            Line::Join { first, second } => {
+                let first = first as usize;
+                let second = second as usize;
+                (first < a && self.is_taken(first, n, name))
+                    || (second < a && self.is_taken(second, n, name))
+            }
+            _ => false,
         }
     }
-    false
-}
 
-// The line that names line m, or 0 where none does; the last of them where more do.
-pub(crate) fn user_of(records: &[Record], m: usize) -> usize
-    ensures { result ≡ user (line (lines_of records.now)) (suc (length (lines_of records.now))) m }
-{
-    let mut k = records.len() + 1;
-    while k > 0 {
-        k -= 1;
-        if names_line(records, k, m) {
-            return k;
+    // The line of the declarations that line n is one of, as its system names it.
+    fn declarations_over(&self, n: usize) -> Option<usize>
+        ensures { under_some (line self.now) result ≡ fellows_by_lines (line self.now) (length self.now) n }
+    {
+        let mut at = n;
+        for _step in 0..self.len() {
+            at = self.user(at)?;
+            match self.line(at) {
+                Line::System { declarations, .. } => return Some(declarations as usize),
+                Line::Join { .. } => {}
+                _ => return None,
+            }
+        }
+        None
+    }
+
+    // Whether a procedure on a line before n, of the system that line n is in, has that name.
+    fn has_earlier_fellow(&self, n: usize, name: Name) -> bool
+        ensures { result ≡ taken_before n name (fellows_by_lines (line self.now) (length self.now) n) }
+    {
+        match self.declarations_over(n) {
+            Some(declarations) => self.is_taken(declarations, n, name),
+            None => false,
         }
     }
-    0
-}
 
-// Whether the declarations at line a have a procedure of that name on a line before n.
-pub(crate) fn is_taken(records: &[Record], a: usize, n: usize, name: Name) -> bool
-    ensures { result ≡ taken_before n name (under (line (lines_of records.now)) a) }
-{
-    match line_at(records, a) {
-        Line::Procedure { name: other, .. } => a < n && other == name,
-        Line::Join { first, second } => {
-            let first = first as usize;
-            let second = second as usize;
-            (first < a && is_taken(records, first, n, name))
-                || (second < a && is_taken(records, second, n, name))
-        }
-        _ => false,
-    }
-}
-
-// The line of the declarations that line n is one of, as its system names it; 0 where line n is in no system.
-fn declarations_over(records: &[Record], n: usize) -> usize
-    ensures { under (line (lines_of records.now)) result ≡ fellows_by_lines (line (lines_of records.now)) (length (lines_of records.now)) n }
-{
-    let mut at = n;
-    for _step in 0..line_count(records) {
-        at = user_of(records, at);
-        match line_at(records, at) {
-            Line::System { declarations, .. } => return declarations as usize,
-            Line::Join { .. } => {}
-            _ => return 0,
+    // Whether line n is a procedure whose formals have one name, or whose name a procedure of its system on an earlier line has.
+    fn is_procedure_again(&self, n: usize) -> bool
+        ensures { result ≡ procedure_again (line self.now) (length self.now) n }
+    {
+        match self.line(n) {
+            Line::Procedure {
+                name,
+                value_formal,
+                variable_formal,
+                ..
+            } => { value_formal == variable_formal || self.has_earlier_fellow(n, name) }
+            _ => false,
         }
     }
-    0
-}
 
-// Whether line n is a procedure whose formals have one name, or whose name a procedure of its system on an earlier line has.
-fn procedure_again(records: &[Record], n: usize) -> bool
-    ensures { result ≡ procedure_again (line (lines_of records.now)) (length (lines_of records.now)) n }
-{
-    match line_at(records, n) {
-        Line::Procedure {
-            name,
-            value_formal,
-            variable_formal,
-            ..
-        } => {
-            value_formal == variable_formal
-                || is_taken(records, declarations_over(records, n), n, name)
-        }
-        _ => false,
+    // Whether line n declares a name twice: among the globals of a sort, the formals of a procedure, or the procedures of a system.
+    fn is_name_again(&self, n: usize) -> bool
+        ensures { result ≡ name_twice (line self.now) (length self.now) n }
+    {
+        self.is_global_again(n) || self.is_procedure_again(n)
     }
-}
 
-// A name that is declared twice: among the globals of a sort, the formals of a procedure, or the procedures of a system.
-#[derive(Clone, Copy)]
-pub(crate) struct NameAgain;
-
-impl Fault for NameAgain {
-    ghost test = { λ f ls n. name_twice (line ls) (length ls) n };
-
-    fn has(&self, records: &[Record], n: usize) -> bool {
-        global_again(records, n) || procedure_again(records, n)
+    // The lowest line that declares a name again.
+    pub(crate) fn lowest_name_again(&self) -> Option<usize>
+        ensures { result ≡ lowest (name_twice (line self.now) (length self.now)) (suc (length self.now)) }
+    {
+        self.numbers().find(|n| self.is_name_again(*n))
     }
 }

@@ -1,16 +1,13 @@
 // Looking up a name in what is around a line: written once for variables, arrays and procedures.
-ghost use Rattle.std.specs.Prelude.{◌≡◌, length};
+ghost use Rattle.std.specs.Prelude.{◌≡◌, suc, length};
 ghost use Rattle.script.specs.Tree.{line};
 ghost use Rattle.script.specs.Around.{naming};
 ghost use Rattle.script.specs.Apart.{globals_of, heads};
-ghost use Rattle.script.specs.Tests.{among, not_declared, scope_by_lines, under};
-ghost use Rattle.acceptance.specs.Sheet.{lines_of};
+ghost use Rattle.script.specs.Tests.{among, lowest, not_declared, scope_by_lines, under};
 ghost use Rattle.acceptance.specs.Scopes.{any_global, declares, known, listed, suits, wants_array, wants_procedure, wants_simple};
 
-use crate::lowest::Fault;
-use crate::names::{is_taken, user_of};
-use crate::sheet::{line_at, line_count};
-use lines::records::{Line, LineNumber, Name, Record};
+use crate::sheet::Sheet;
+use lines::records::{Line, LineNumber, Name};
 
 // The sort of name that is looked up.
 #[derive(Clone, Copy)]
@@ -51,91 +48,83 @@ impl Sought {
     }
 }
 
-// Whether the declarations at a line have a procedure of that name.
-fn has_procedure(records: &[Record], declarations: LineNumber, name: Name) -> bool
-    ensures { result ≡ listed name (under (line (lines_of records.now)) «declarations») }
-{
-    is_taken(
-        records,
-        declarations as usize,
-        declarations as usize + 1,
-        name,
-    )
-}
-
-// Whether line p declares the name for the lines that it names.
-fn declares(records: &[Record], p: usize, sought: Sought, name: Name) -> bool
-    ensures { result ≡ declares sought name (under (line (lines_of records.now))) (naming (line (lines_of records.now) p)) }
-{
-    match line_at(records, p) {
-        Line::NewSimple { name: declared, .. } => sought.is_simple() && declared == name,
-        Line::NewArray { name: declared, .. } => sought.is_array() && declared == name,
-        Line::Procedure {
-            value_formal,
-            variable_formal,
-            ..
-        } => sought.is_simple() && (variable_formal == name || value_formal == name),
-        Line::System { declarations, .. } => sought.is_procedure()
-            && has_procedure(records, declarations, name),
-        _ => false,
+impl<'a> Sheet<'a> {
+    // Whether the declarations at a line have a procedure of that name.
+    fn has_procedure(&self, declarations: LineNumber, name: Name) -> bool
+        ensures { result ≡ listed name (under (line self.now) «declarations») }
+    {
+        self.is_taken(declarations as usize, declarations as usize + 1, name)
     }
-}
 
-// Whether a global has the name.
-fn is_global(records: &[Record], sought: Sought, name: Name) -> bool
-    ensures { result ≡ any_global sought name (heads (lines_of records.now)) }
-{
-    for record in records {
-        match record.line {
-            Line::Global {
-                name: declared,
-                length,
-            } => if sought.suits(length) && declared == name {
+    // Whether line p declares the name for the lines that it names.
+    fn declares(&self, p: usize, sought: Sought, name: Name) -> bool
+        ensures { result ≡ declares sought name (under (line self.now)) (naming (line self.now p)) }
+    {
+        match self.line(p) {
+            Line::NewSimple { name: declared, .. } => sought.is_simple() && declared == name,
+            Line::NewArray { name: declared, .. } => sought.is_array() && declared == name,
+            Line::Procedure {
+                value_formal,
+                variable_formal,
+                ..
+            } => sought.is_simple() && (variable_formal == name || value_formal == name),
+            Line::System { declarations, .. } => sought.is_procedure()
+                && self.has_procedure(declarations, name),
+            _ => false,
+        }
+    }
+
+    // Whether a global has the name.
+    fn is_global(&self, sought: Sought, name: Name) -> bool
+        ensures { result ≡ any_global sought name (heads self.now) }
+    {
+        for record in self.records() {
+            match record.line {
+                Line::Global {
+                    name: declared,
+                    length,
+                } => if sought.suits(length) && declared == name {
+                    return true;
+                },
+                _ => return false,
+            }
+        }
+        false
+    }
+
+    // Whether a declaration around line n, or a global, has the name.
+    fn is_known(&self, n: usize, sought: Sought, name: Name) -> bool
+        ensures { result ≡ among (known sought (scope_by_lines (line self.now) (length self.now) (globals_of self.now).scope n)) name }
+    {
+        let mut at = n;
+        for _step in 0..self.len() {
+            let Some(user) = self.user(at) else {
+                return self.is_global(sought, name);
+            };
+            if self.declares(user, sought, name) {
                 return true;
-            },
-            _ => return false,
+            }
+            at = user;
+        }
+        self.is_global(sought, name)
+    }
+
+    // Whether line n uses a name that no declaration around it, and no global, has.
+    fn is_undeclared(&self, n: usize) -> bool
+        ensures { result ≡ not_declared (line self.now) (length self.now) (globals_of self.now).scope n }
+    {
+        match self.line(n) {
+            Line::Simple { name } => !self.is_known(n, Sought::Simple, name),
+            Line::Element { name, .. } => !self.is_known(n, Sought::Array, name),
+            Line::Call { procedure, .. } => !self.is_known(n, Sought::Procedure, procedure),
+            _ => false,
         }
     }
-    false
-}
 
-// Whether a declaration around line n, or a global, has the name.
-fn is_known(records: &[Record], n: usize, sought: Sought, name: Name) -> bool
-    ensures { result ≡ among (known sought (scope_by_lines (line (lines_of records.now)) (length (lines_of records.now)) (globals_of (lines_of records.now)).scope n)) name }
-{
-    let mut at = n;
-    for _step in 0..line_count(records) {
-        at = user_of(records, at);
-        if at == 0 {
-            return is_global(records, sought, name);
-        }
-        if declares(records, at, sought, name) {
-            return true;
-        }
-    }
-    is_global(records, sought, name)
-}
-
-// Whether line n uses a name that is not known there.
-fn is_undeclared(records: &[Record], n: usize) -> bool
-    ensures { result ≡ not_declared (line (lines_of records.now)) (length (lines_of records.now)) (globals_of (lines_of records.now)).scope n }
-{
-    match line_at(records, n) {
-        Line::Simple { name } => !is_known(records, n, Sought::Simple, name),
-        Line::Element { name, .. } => !is_known(records, n, Sought::Array, name),
-        Line::Call { procedure, .. } => !is_known(records, n, Sought::Procedure, procedure),
-        _ => false,
-    }
-}
-
-// A name that no declaration around its line has.
-#[derive(Clone, Copy)]
-pub(crate) struct Undeclared;
-
-impl Fault for Undeclared {
-    ghost test = { λ f ls n. not_declared (line ls) (length ls) (globals_of ls).scope n };
-
-    fn has(&self, records: &[Record], n: usize) -> bool {
-        is_undeclared(records, n)
+    // The lowest line that uses a name which is not declared around it.
+    pub(crate) fn lowest_undeclared(&self) -> Option<usize>
+        ensures { result ≡ lowest (not_declared (line self.now) (length self.now) (globals_of self.now).scope) (suc (length self.now)) }
+    {
+        self.numbers().find(|n| self.is_undeclared(*n))
     }
 }

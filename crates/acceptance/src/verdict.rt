@@ -1,16 +1,19 @@
 // Whether a sheet is a script, and what it is refused for if it is not.
-ghost use Rattle.std.specs.Prelude.{◌≡◌, Some};
+ghost use Rattle.std.specs.Prelude.{◌≡◌, Some, None};
 ghost use Rattle.script.specs.Causes.{number_of};
-ghost use Rattle.script.specs.Tests.{refusal};
+ghost use Rattle.script.specs.Tests.{or_later, refusal};
 ghost use Rattle.acceptance.specs.Sheet.{lines_of};
-ghost use Rattle.acceptance.specs.Verdict.{reason_of, meaning_of, told, Judged, by_kind, by_depth, by_uses, by_names, by_form};
+ghost use Rattle.acceptance.specs.Verdict.{reason_of, meaning_of, told, Judged};
 
-use crate::checks::{name_again, out_of_form, out_of_kind, too_deep, undeclared};
+use crate::sheet::Sheet;
 use kinds::NumberKind;
 use lines::records::Record;
+use lines::refusals::Refusal;
+use std::error::Error;
+use std::fmt;
 
 // Why a whole sheet is refused.
-#[derive(Clone, Copy)]
+#[derive(Clone, Copy, PartialEq, Eq, Debug)]
 pub enum SheetCause {
     OutOfForm,
     NameAgain,
@@ -19,11 +22,12 @@ pub enum SheetCause {
     OutOfKind,
 }
 
-impl SheetCause {
-    pub fn number(self) -> u8
-        ensures { result ≡ number_of (reason_of self) }
-    {
-        match self {
+// The number of a refusal for that cause.
+impl From<SheetCause> for u8 {
+    ghost from_gives = { λ cause n. n ≡ number_of (reason_of cause) };
+
+    fn from(cause: SheetCause) -> u8 {
+        match cause {
             SheetCause::OutOfForm => 6,
             SheetCause::NameAgain => 8,
             SheetCause::Undeclared => 7,
@@ -31,96 +35,45 @@ impl SheetCause {
             SheetCause::OutOfKind => 10,
         }
     }
+}
 
-    // What it means, in plain words.
-    pub fn meaning(self) -> &'static str
-        ensures { result.now ≡ meaning_of self }
-    {
-        words_of(self)
+// What it means, in plain words.
+impl fmt::Display for SheetCause {
+    ghost output = { λ cause. Some (meaning_of cause) };
+
+    fn fmt<W: fmt::Write>(&self, f: &mut fmt::Formatter<W>) -> fmt::Result {
+        f.write_str(match self {
+            SheetCause::OutOfForm => "the lines do not make one script",
+            SheetCause::NameAgain => "a name is declared twice",
+            SheetCause::Undeclared => "a name is not declared",
+            SheetCause::TooDeep => "nested deeper than 64",
+            SheetCause::OutOfKind => "a constant outside the number kind",
+        })
     }
 }
 
-fn words_of(cause: SheetCause) -> &'static str
-    ensures { result.now ≡ meaning_of cause }
+impl Error for SheetCause {}
+
+// Whether the lines are a script for the number kind; else the first cause, in the order of the refusals, with its lowest line:
+// line 0 where the sheet has none.
+pub fn accept<K: NumberKind>(records: &[Record]) -> Result<(), Refusal<SheetCause>>
+    ensures right { Judged K.kind.least K.kind.most (lines_of records.now) result }
+    ensures refusal { told result ≡ refusal K.kind.least K.kind.most (lines_of records.now) }
 {
-    match cause {
-        SheetCause::OutOfForm => "the lines do not make one script",
-        SheetCause::NameAgain => "a name is declared twice",
-        SheetCause::Undeclared => "a name is not declared",
-        SheetCause::TooDeep => "nested deeper than 64",
-        SheetCause::OutOfKind => "a constant outside the number kind",
-    }
+    let sheet = Sheet::new(records);
+    pass(SheetCause::OutOfForm, sheet.lowest_out_of_form())?;
+    pass(SheetCause::NameAgain, sheet.lowest_name_again())?;
+    pass(SheetCause::Undeclared, sheet.lowest_undeclared())?;
+    pass(SheetCause::TooDeep, sheet.lowest_too_deep())?;
+    pass(SheetCause::OutOfKind, sheet.lowest_out_of_kind::<K>())
 }
 
-// A cause, and the lowest line at fault: 0 where the sheet has no line.
-#[derive(Clone, Copy)]
-pub struct SheetRefusal {
-    pub cause: SheetCause,
-    pub line: usize,
-}
-
-// Whether the lines are a script for the number kind; else the first cause, in the order of the refusals, with its lowest line.
-pub fn accept<K: NumberKind>(records: &[Record]) -> Result<(), SheetRefusal>
-    ensures right { Judged K.NumberKind.kind.least K.NumberKind.kind.most (lines_of records.now) result }
-    ensures refusal { told result ≡ refusal K.NumberKind.kind.least K.NumberKind.kind.most (lines_of records.now) }
+// Lets a sheet pass in which no line is at fault.
+fn pass(cause: SheetCause, at_fault: Option<usize>) -> Result<(), Refusal<SheetCause>>
+    ensures { told result ≡ or_later (number_of (reason_of cause)) at_fault None }
 {
-    judge::<K>(records)
-}
-
-fn judge<K: NumberKind>(records: &[Record]) -> Result<(), SheetRefusal>
-    ensures right { Judged K.NumberKind.kind.least K.NumberKind.kind.most (lines_of records.now) result }
-    ensures refusal { told result ≡ refusal K.NumberKind.kind.least K.NumberKind.kind.most (lines_of records.now) }
-{
-    check_form::<K>(records)
-}
-
-fn refused(cause: SheetCause, line: usize) -> Result<(), SheetRefusal>
-    ensures { told result ≡ Some (number_of (reason_of cause), line) }
-{
-    Err(SheetRefusal { cause, line })
-}
-
-fn check_form<K: NumberKind>(records: &[Record]) -> Result<(), SheetRefusal>
-    ensures { told result ≡ by_form K.NumberKind.kind.least K.NumberKind.kind.most (lines_of records.now) }
-{
-    match out_of_form::<K>(records) {
-        Some(line) => refused(SheetCause::OutOfForm, line),
-        None => check_names::<K>(records),
-    }
-}
-
-fn check_names<K: NumberKind>(records: &[Record]) -> Result<(), SheetRefusal>
-    ensures { told result ≡ by_names K.NumberKind.kind.least K.NumberKind.kind.most (lines_of records.now) }
-{
-    match name_again::<K>(records) {
-        Some(line) => refused(SheetCause::NameAgain, line),
-        None => check_uses::<K>(records),
-    }
-}
-
-fn check_uses<K: NumberKind>(records: &[Record]) -> Result<(), SheetRefusal>
-    ensures { told result ≡ by_uses K.NumberKind.kind.least K.NumberKind.kind.most (lines_of records.now) }
-{
-    match undeclared::<K>(records) {
-        Some(line) => refused(SheetCause::Undeclared, line),
-        None => check_depth::<K>(records),
-    }
-}
-
-fn check_depth<K: NumberKind>(records: &[Record]) -> Result<(), SheetRefusal>
-    ensures { told result ≡ by_depth K.NumberKind.kind.least K.NumberKind.kind.most (lines_of records.now) }
-{
-    match too_deep(records) {
-        Some(line) => refused(SheetCause::TooDeep, line),
-        None => check_constants::<K>(records),
-    }
-}
-
-fn check_constants<K: NumberKind>(records: &[Record]) -> Result<(), SheetRefusal>
-    ensures { told result ≡ by_kind K.NumberKind.kind.least K.NumberKind.kind.most (lines_of records.now) }
-{
-    match out_of_kind::<K>(records) {
-        Some(line) => refused(SheetCause::OutOfKind, line),
+    match at_fault {
+        Some(line) => Err(Refusal { cause, line }),
         None => Ok(()),
     }
 }

@@ -1,9 +1,0 @@
-use Rattle.std.proofs.Common.{◌≡◌, false}
-use Rattle.script.specs.Tree.{line}
-use Rattle.script.specs.Tests.{named}
-use Rattle.acceptance.specs.Sheet.{lines_of}
-use Rattle.acceptance.specs.Naming.{stands}
-use Rattle.acceptance.proofs.form.is_named_below.Given as goal
-
-abbrev pub invariant-loop-k : goal.invariant-loop-k
-invariant-loop-k l = stands l.m (named (line (lines_of l.records)) l.k) ≡ false

@@ -1,4 +1,0 @@
-use Rattle.acceptance.proofs.names.+is_taken.Given as goal
-
-abbrev pub decreases-is_taken : goal.decreases-is_taken
-decreases-is_taken l = l.a
