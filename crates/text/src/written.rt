@@ -1,25 +1,42 @@
 // Lines that are written for a reader: a letter and three numbers, as `f,0,0,4`.
-ghost use Rattle.std.specs.Prelude.{◌≡◌, ℕ, ◌+◌, ◌≤◌, ◌∷◌, length, if◌then◌else◌, Ok, Err, decimal, nat_le};
-ghost use Rattle.text.specs.Written.{spelling, placed, refusal_number};
+ghost use Rattle.std.specs.Prelude.{◌≡◌, ℕ, ◌+◌, ◌≤◌, ◌∷◌, length, Some, if◌then◌else◌, Ok, Err, decimal, nat_le};
+ghost use Rattle.text.specs.Written.{spelling, printed, placed, refusal_number, refusal_meaning};
 ghost use Rattle.text.specs.declared.written.WriteRefusal.TheVariants.{BufferTooShort};
 
+use std::error::Error;
+use std::fmt;
+
 // Why a line is not written.
-#[derive(Clone, Copy)]
+#[derive(Clone, Copy, PartialEq, Eq, Debug)]
 pub enum WriteRefusal {
     BufferTooShort,
 }
 
-impl WriteRefusal {
-    pub fn number(self) -> u8
-        ensures { result ≡ refusal_number self }
-    {
-        match self {
+// The number of a refusal.
+impl From<WriteRefusal> for u8 {
+    ghost from_gives = { λ refusal n. n ≡ refusal_number refusal };
+
+    fn from(refusal: WriteRefusal) -> u8 {
+        match refusal {
             WriteRefusal::BufferTooShort => 20,
         }
     }
 }
 
-#[derive(Clone, Copy)]
+// What it means, in plain words.
+impl fmt::Display for WriteRefusal {
+    ghost output = { λ refusal. Some (refusal_meaning refusal) };
+
+    fn fmt<W: fmt::Write>(&self, f: &mut fmt::Formatter<W>) -> fmt::Result {
+        f.write_str(match self {
+            WriteRefusal::BufferTooShort => "the buffer is too short for the line",
+        })
+    }
+}
+
+impl Error for WriteRefusal {}
+
+#[derive(Clone, Copy, PartialEq, Eq, Debug)]
 pub struct WrittenLine {
     pub letter: u8,
     pub first: u32,
@@ -57,6 +74,16 @@ impl WrittenLine {
         let at = put_field(buffer, at, self.second);
         let at = put_field(buffer, at, self.third);
         buffer[at] = b'\n';
+    }
+}
+
+// The line as a text, where its letter is one of ASCII.
+impl fmt::Display for WrittenLine {
+    ghost output = { printed };
+
+    fn fmt<W: fmt::Write>(&self, f: &mut fmt::Formatter<W>) -> fmt::Result {
+        let letter = self.letter as char;
+        writeln!(f, "{letter},{},{},{}", self.first, self.second, self.third)
     }
 }
 
