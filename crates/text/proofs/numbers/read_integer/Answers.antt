@@ -1,4 +1,4 @@
-use Rattle.std.proofs.Common.{◌≡◌, Some, sym, ap, ◌∙◌, arith, rules}
+use Rattle.std.proofs.Common.{◌≡◌, Some, sym, ap, ◌∙◌, arith}
 use Rattle.text.specs.Spelling.{negative}
 use Rattle.text.proofs.Spelled.{integer_says, minus_read}
 use Rattle.text.proofs.numbers.read_integer.Goals as goal

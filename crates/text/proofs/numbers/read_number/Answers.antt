@@ -1,6 +1,6 @@
-use Rattle.std.proofs.Common.{◌≡◌, ℕ, None, arith, rules}
+use Rattle.std.proofs.Common.{◌≡◌, None, arith, rules}
 use Rattle.std.proofs.lemmas.Result.{MatchResult-at_ok, MatchResult-at_err}
-use Rattle.text.proofs.Spelled.{both_number, number_says, spells_none, ok_said, err_said, no_value, decimal_utf8, decimal_plus, decimal_zero, reads_decimal, reads_back}
+use Rattle.text.proofs.Spelled.{both_number, number_says, spells_none, ok_said, err_said, no_value, decimal_utf8, reads_decimal, reads_back}
 use Rattle.text.proofs.numbers.read_number.Goals as goal
 
 pub returns-in_default-clause-spelled : goal.returns-in_default-clause-spelled
