@@ -5,10 +5,7 @@ ghost use Rattle.lines.specs.Reading.{kind_of, is_number, line_reading};
 
 use crate::records::Line;
 use crate::refusals::Cause;
-use crate::shapes::{
-    a_constant, a_name, name_and_length, name_and_line, name_and_two_lines, name_length_line,
-    no_fields, one_line, three_lines, three_names_and_line, two_lines,
-};
+use crate::shapes::{AConstant, ALine, AName, ArrayLength, GlobalLength, Unused, four};
 use crate::sorts::{ConditionSort, DeclarationSort, ExpressionSort, Sort, StatementSort, sort_of};
 use text::fields::{Fields, six_fields};
 use text::numbers::read_number;
@@ -18,19 +15,19 @@ fn expression_line(sort: ExpressionSort, f: &Fields<'_>) -> Option<Line>
 {
     match sort {
         ExpressionSort::Constant => {
-            let value = a_constant(f)?;
+            let (value, _, _, _) = four::<AConstant, Unused, Unused, Unused>(f)?;
             Some(Line::Constant { value })
         }
         ExpressionSort::Simple => {
-            let name = a_name(f)?;
+            let (name, _, _, _) = four::<AName, Unused, Unused, Unused>(f)?;
             Some(Line::Simple { name })
         }
         ExpressionSort::Element => {
-            let (name, index) = name_and_line(f)?;
+            let (name, index, _, _) = four::<AName, ALine, Unused, Unused>(f)?;
             Some(Line::Element { name, index })
         }
         ExpressionSort::Operation(operator) => {
-            let (left, right) = two_lines(f)?;
+            let (left, right, _, _) = four::<ALine, ALine, Unused, Unused>(f)?;
             Some(Line::Operation {
                 operator,
                 left,
@@ -38,7 +35,7 @@ fn expression_line(sort: ExpressionSort, f: &Fields<'_>) -> Option<Line>
             })
         }
         ExpressionSort::Choice => {
-            let (condition, chosen, otherwise) = three_lines(f)?;
+            let (condition, chosen, otherwise, _) = four::<ALine, ALine, ALine, Unused>(f)?;
             Some(Line::Choice {
                 condition,
                 chosen,
@@ -53,11 +50,11 @@ fn condition_line(sort: ConditionSort, f: &Fields<'_>) -> Option<Line>
 {
     match sort {
         ConditionSort::Truth(value) => {
-            no_fields(f)?;
+            four::<Unused, Unused, Unused, Unused>(f)?;
             Some(Line::Truth { value })
         }
         ConditionSort::Comparison(relation) => {
-            let (left, right) = two_lines(f)?;
+            let (left, right, _, _) = four::<ALine, ALine, Unused, Unused>(f)?;
             Some(Line::Comparison {
                 relation,
                 left,
@@ -65,11 +62,11 @@ fn condition_line(sort: ConditionSort, f: &Fields<'_>) -> Option<Line>
             })
         }
         ConditionSort::Negation => {
-            let condition = one_line(f)?;
+            let (condition, _, _, _) = four::<ALine, Unused, Unused, Unused>(f)?;
             Some(Line::Negation { condition })
         }
         ConditionSort::Implication => {
-            let (premise, conclusion) = two_lines(f)?;
+            let (premise, conclusion, _, _) = four::<ALine, ALine, Unused, Unused>(f)?;
             Some(Line::Implication {
                 premise,
                 conclusion,
@@ -83,15 +80,15 @@ fn statement_line(sort: StatementSort, f: &Fields<'_>) -> Option<Line>
 {
     match sort {
         StatementSort::Assignment => {
-            let (variable, value) = two_lines(f)?;
+            let (variable, value, _, _) = four::<ALine, ALine, Unused, Unused>(f)?;
             Some(Line::Assignment { variable, value })
         }
         StatementSort::Sequence => {
-            let (first, second) = two_lines(f)?;
+            let (first, second, _, _) = four::<ALine, ALine, Unused, Unused>(f)?;
             Some(Line::Sequence { first, second })
         }
         StatementSort::Branch => {
-            let (condition, chosen, otherwise) = three_lines(f)?;
+            let (condition, chosen, otherwise, _) = four::<ALine, ALine, ALine, Unused>(f)?;
             Some(Line::Branch {
                 condition,
                 chosen,
@@ -99,7 +96,7 @@ fn statement_line(sort: StatementSort, f: &Fields<'_>) -> Option<Line>
             })
         }
         StatementSort::Call => {
-            let (procedure, value, variable) = name_and_two_lines(f)?;
+            let (procedure, value, variable, _) = four::<AName, ALine, ALine, Unused>(f)?;
             Some(Line::Call {
                 procedure,
                 value,
@@ -107,15 +104,15 @@ fn statement_line(sort: StatementSort, f: &Fields<'_>) -> Option<Line>
             })
         }
         StatementSort::NewSimple => {
-            let (name, body) = name_and_line(f)?;
+            let (name, body, _, _) = four::<AName, ALine, Unused, Unused>(f)?;
             Some(Line::NewSimple { name, body })
         }
         StatementSort::NewArray => {
-            let (name, length, body) = name_length_line(f)?;
+            let (name, length, body, _) = four::<AName, ArrayLength, ALine, Unused>(f)?;
             Some(Line::NewArray { name, length, body })
         }
         StatementSort::System => {
-            let (declarations, body) = two_lines(f)?;
+            let (declarations, body, _, _) = four::<ALine, ALine, Unused, Unused>(f)?;
             Some(Line::System { declarations, body })
         }
     }
@@ -126,7 +123,9 @@ fn declaration_line(sort: DeclarationSort, f: &Fields<'_>) -> Option<Line>
 {
     match sort {
         DeclarationSort::Procedure => {
-            let (name, value_formal, variable_formal, body) = three_names_and_line(f)?;
+            let (name, value_formal, variable_formal, body) = four::<AName, AName, AName, ALine>(
+                f,
+            )?;
             Some(Line::Procedure {
                 name,
                 value_formal,
@@ -135,7 +134,7 @@ fn declaration_line(sort: DeclarationSort, f: &Fields<'_>) -> Option<Line>
             })
         }
         DeclarationSort::Join => {
-            let (first, second) = two_lines(f)?;
+            let (first, second, _, _) = four::<ALine, ALine, Unused, Unused>(f)?;
             Some(Line::Join { first, second })
         }
     }
@@ -147,7 +146,7 @@ fn line_of(sort: Sort, f: &Fields<'_>) -> Option<Line>
 {
     match sort {
         Sort::Global => {
-            let (name, length) = name_and_length(f)?;
+            let (name, length, _, _) = four::<AName, GlobalLength, Unused, Unused>(f)?;
             Some(Line::Global { name, length })
         }
         Sort::Expression(sort) => expression_line(sort, f),
