@@ -1,12 +1,14 @@
 // One line of a sheet.
 ghost use Rattle.std.specs.Prelude.{◌≡◌};
+ghost use Rattle.std.specs.Option.{ok_or};
+ghost use Rattle.lines.specs.declared.refusals.Cause.TheVariants.{Kind};
 ghost use Rattle.lines.specs.Lines.{expression_line, condition_line, statement_line, declaration_line, line_of};
 ghost use Rattle.lines.specs.Reading.{kind_of, is_number, line_reading};
 
 use crate::records::Line;
 use crate::refusals::Cause;
 use crate::shapes::{AConstant, ALine, AName, ArrayLength, GlobalLength, Unused, four};
-use crate::sorts::{ConditionSort, DeclarationSort, ExpressionSort, Sort, StatementSort, sort_of};
+use crate::sorts::{ConditionSort, DeclarationSort, ExpressionSort, Sort, StatementSort};
 use text::fields::{Fields, six_fields};
 use text::numbers::read_number;
 
@@ -157,12 +159,12 @@ fn line_of(sort: Sort, f: &Fields<'_>) -> Option<Line>
 }
 
 // The sort that a kind field stands for: it is one known character.
-fn kind_of(field: &[u8]) -> Option<Sort>
-    ensures { result ≡ kind_of field.now }
+fn kind_of(field: &[u8]) -> Result<Sort, Cause>
+    ensures { result ≡ ok_or (kind_of field.now) Kind }
 {
     match field {
-        [character] => sort_of(*character),
-        _ => None,
+        [character] => Sort::try_from(*character),
+        _ => Err(Cause::Kind),
     }
 }
 
@@ -170,27 +172,17 @@ fn kind_of(field: &[u8]) -> Option<Sort>
 fn spells(field: &[u8], number: u16) -> bool
     ensures { result ≡ is_number number field.now }
 {
-    match read_number(field, 2048) {
-        Some(n) => n == number as u64,
-        None => false,
-    }
+    read_number(field, 2048) == Some(number as u64)
 }
 
 // What the line of that number says, or why it is refused.
 pub fn read_line(line: &[u8], number: u16) -> Result<Line, Cause>
     ensures { result ≡ line_reading number line.now }
 {
-    let Some(f) = six_fields(line) else {
-        return Err(Cause::Form);
-    };
+    let f = six_fields(line).ok_or(Cause::Form)?;
     if !spells(f.number, number) {
         return Err(Cause::Field);
     }
-    let Some(sort) = kind_of(f.kind) else {
-        return Err(Cause::Kind);
-    };
-    match line_of(sort, &f) {
-        Some(line) => Ok(line),
-        None => Err(Cause::Field),
-    }
+    let sort = kind_of(f.kind)?;
+    line_of(sort, &f).ok_or(Cause::Field)
 }

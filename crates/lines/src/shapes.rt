@@ -1,6 +1,6 @@
 // What the four fields of a line hold, each read whole.
 ghost use Rattle.std.specs.Prelude.{◌≡◌, ℕ, ◌≤◌, List, IfSome, MatchOption, Option, Some};
-ghost use Rattle.lines.specs.Ranges.{within, LacksOne};
+ghost use Rattle.lines.specs.Ranges.{within, name, LacksOne};
 
 use text::fields::Fields;
 use text::numbers::{read_integer, read_number};
@@ -35,7 +35,7 @@ pub(crate) struct AName;
 impl FieldRange for AName {
     type Value = u8;
 
-    ghost value = { within 1 255 };
+    ghost value = { name };
 
     fn read(field: &[u8]) -> Option<u8> {
         Some(number_within(field, 1, 255)? as u8)
