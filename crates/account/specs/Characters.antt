@@ -1,23 +1,8 @@
 -- The character that stands for the kind of a line.
 use Rattle.std.specs.Prelude.{ℕ, Bool, true, false, List, count_by, nat_eq}
-use Rattle.lines.specs.declared.sorts.Operator.{Operator}
-use Rattle.lines.specs.declared.sorts.Operator.TheVariants.{Plus, Minus, Times, Over}
-use Rattle.lines.specs.declared.sorts.Relation.{Relation}
-use Rattle.lines.specs.declared.sorts.Relation.TheVariants.{Equal, Less}
 use Rattle.lines.specs.declared.records.Line.{Line}
 use Rattle.lines.specs.declared.records.Record.{Record}
-
--- + - * /
-abbrev pub operator_character : Operator → ℕ
-operator_character Plus = 43
-operator_character Minus = 45
-operator_character Times = 42
-operator_character Over = 47
-
--- = <
-abbrev pub relation_character : Relation → ℕ
-relation_character Equal = 61
-relation_character Less = 60
+use Rattle.lines.specs.Sorts.{operator_character, relation_character}
 
 -- t f
 abbrev pub truth_character : Bool → ℕ

@@ -1,6 +1,6 @@
 -- The ranges of a line's fields, and the field groups that several sorts of line share.
 -- Each says what the fields hold, or nothing where one of them is no number of its range.
-use Rattle.std.specs.Prelude.{ℕ, cond, List, ℤ, Some, None, Option, nat_le}
+use Rattle.std.specs.Prelude.{◌≡◌, ℕ, ◌⊎◌, cond, List, ℤ, Some, None, Option, nat_le}
 use Rattle.text.specs.Spelling.{number, integer}
 
 -- what is made of a value, where there is one
@@ -31,6 +31,14 @@ array_length = within 1 256
 -- an unused field is 0
 abbrev pub unused : List ℕ → Option ℕ
 unused = within 0 0
+
+-- one of the four is nothing, and those before it are something
+abbrev pub LacksOne : {A B C D : Type 0} → Option A → Option B → Option C → Option D → Type 0
+LacksOne {A = A} {B = B} {C = C} a b c d =
+    (a ≡ None)
+    ⊎ ((x : A) × (a ≡ Some x) × (b ≡ None))
+    ⊎ ((x : A) × (y : B) × (a ≡ Some x) × (b ≡ Some y) × (c ≡ None))
+    ⊎ ((x : A) × (y : B) × (z : C) × (a ≡ Some x) × (b ≡ Some y) × (c ≡ Some z) × (d ≡ None))
 
 module _ (a b c d : List ℕ) where
   -- no field used

@@ -1,6 +1,8 @@
 -- Which character stands for which sort of line: one table.
 use Rattle.std.specs.Prelude.{ℕ, true, false, cond, List, [], ◌∷◌, Some, None, codes, Option, ◌==◌}
+use Rattle.lines.specs.declared.sorts.Operator.{Operator}
 use Rattle.lines.specs.declared.sorts.Operator.TheVariants.{Plus, Minus, Times, Over}
+use Rattle.lines.specs.declared.sorts.Relation.{Relation}
 use Rattle.lines.specs.declared.sorts.Relation.TheVariants.{Equal, Less}
 use Rattle.lines.specs.declared.sorts.ExpressionSort.TheVariants.{Constant, Simple, Element, Operation, Choice}
 use Rattle.lines.specs.declared.sorts.ConditionSort.TheVariants.{Truth, Comparison, Negation, Implication}
@@ -35,3 +37,17 @@ beside (x ∷ xs) (y ∷ ys) c = cond (c == x) (Some y) (beside xs ys c)
 -- the sort that a character stands for
 abbrev pub sort_of : ℕ → Option Sort
 sort_of c = beside letters sorts c
+
+-- The other way, for the operators and the relations.
+
+-- + - * /
+abbrev pub operator_character : Operator → ℕ
+operator_character Plus = 43
+operator_character Minus = 45
+operator_character Times = 42
+operator_character Over = 47
+
+-- = <
+abbrev pub relation_character : Relation → ℕ
+relation_character Equal = 61
+relation_character Less = 60

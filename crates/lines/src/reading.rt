@@ -1,15 +1,14 @@
 // One line of a sheet.
 ghost use Rattle.std.specs.Prelude.{◌≡◌};
+ghost use Rattle.std.specs.Option.{ok_or};
+ghost use Rattle.lines.specs.declared.refusals.Cause.TheVariants.{Kind};
 ghost use Rattle.lines.specs.Lines.{expression_line, condition_line, statement_line, declaration_line, line_of};
 ghost use Rattle.lines.specs.Reading.{kind_of, is_number, line_reading};
 
 use crate::records::Line;
 use crate::refusals::Cause;
-use crate::shapes::{
-    a_constant, a_name, name_and_length, name_and_line, name_and_two_lines, name_length_line,
-    no_fields, one_line, three_lines, three_names_and_line, two_lines,
-};
-use crate::sorts::{ConditionSort, DeclarationSort, ExpressionSort, Sort, StatementSort, sort_of};
+use crate::shapes::{AConstant, ALine, AName, ArrayLength, GlobalLength, Unused, four};
+use crate::sorts::{ConditionSort, DeclarationSort, ExpressionSort, Sort, StatementSort};
 use text::fields::{Fields, six_fields};
 use text::numbers::read_number;
 
@@ -18,19 +17,19 @@ fn expression_line(sort: ExpressionSort, f: &Fields<'_>) -> Option<Line>
 {
     match sort {
         ExpressionSort::Constant => {
-            let value = a_constant(f)?;
+            let (value, _, _, _) = four::<AConstant, Unused, Unused, Unused>(f)?;
             Some(Line::Constant { value })
         }
         ExpressionSort::Simple => {
-            let name = a_name(f)?;
+            let (name, _, _, _) = four::<AName, Unused, Unused, Unused>(f)?;
             Some(Line::Simple { name })
         }
         ExpressionSort::Element => {
-            let (name, index) = name_and_line(f)?;
+            let (name, index, _, _) = four::<AName, ALine, Unused, Unused>(f)?;
             Some(Line::Element { name, index })
         }
         ExpressionSort::Operation(operator) => {
-            let (left, right) = two_lines(f)?;
+            let (left, right, _, _) = four::<ALine, ALine, Unused, Unused>(f)?;
             Some(Line::Operation {
                 operator,
                 left,
@@ -38,7 +37,7 @@ fn expression_line(sort: ExpressionSort, f: &Fields<'_>) -> Option<Line>
             })
         }
         ExpressionSort::Choice => {
-            let (condition, chosen, otherwise) = three_lines(f)?;
+            let (condition, chosen, otherwise, _) = four::<ALine, ALine, ALine, Unused>(f)?;
             Some(Line::Choice {
                 condition,
                 chosen,
@@ -53,11 +52,11 @@ fn condition_line(sort: ConditionSort, f: &Fields<'_>) -> Option<Line>
 {
     match sort {
         ConditionSort::Truth(value) => {
-            no_fields(f)?;
+            four::<Unused, Unused, Unused, Unused>(f)?;
             Some(Line::Truth { value })
         }
         ConditionSort::Comparison(relation) => {
-            let (left, right) = two_lines(f)?;
+            let (left, right, _, _) = four::<ALine, ALine, Unused, Unused>(f)?;
             Some(Line::Comparison {
                 relation,
                 left,
@@ -65,11 +64,11 @@ fn condition_line(sort: ConditionSort, f: &Fields<'_>) -> Option<Line>
             })
         }
         ConditionSort::Negation => {
-            let condition = one_line(f)?;
+            let (condition, _, _, _) = four::<ALine, Unused, Unused, Unused>(f)?;
             Some(Line::Negation { condition })
         }
         ConditionSort::Implication => {
-            let (premise, conclusion) = two_lines(f)?;
+            let (premise, conclusion, _, _) = four::<ALine, ALine, Unused, Unused>(f)?;
             Some(Line::Implication {
                 premise,
                 conclusion,
@@ -83,15 +82,15 @@ fn statement_line(sort: StatementSort, f: &Fields<'_>) -> Option<Line>
 {
     match sort {
         StatementSort::Assignment => {
-            let (variable, value) = two_lines(f)?;
+            let (variable, value, _, _) = four::<ALine, ALine, Unused, Unused>(f)?;
             Some(Line::Assignment { variable, value })
         }
         StatementSort::Sequence => {
-            let (first, second) = two_lines(f)?;
+            let (first, second, _, _) = four::<ALine, ALine, Unused, Unused>(f)?;
             Some(Line::Sequence { first, second })
         }
         StatementSort::Branch => {
-            let (condition, chosen, otherwise) = three_lines(f)?;
+            let (condition, chosen, otherwise, _) = four::<ALine, ALine, ALine, Unused>(f)?;
             Some(Line::Branch {
                 condition,
                 chosen,
@@ -99,7 +98,7 @@ fn statement_line(sort: StatementSort, f: &Fields<'_>) -> Option<Line>
             })
         }
         StatementSort::Call => {
-            let (procedure, value, variable) = name_and_two_lines(f)?;
+            let (procedure, value, variable, _) = four::<AName, ALine, ALine, Unused>(f)?;
             Some(Line::Call {
                 procedure,
                 value,
@@ -107,15 +106,15 @@ fn statement_line(sort: StatementSort, f: &Fields<'_>) -> Option<Line>
             })
         }
         StatementSort::NewSimple => {
-            let (name, body) = name_and_line(f)?;
+            let (name, body, _, _) = four::<AName, ALine, Unused, Unused>(f)?;
             Some(Line::NewSimple { name, body })
         }
         StatementSort::NewArray => {
-            let (name, length, body) = name_length_line(f)?;
+            let (name, length, body, _) = four::<AName, ArrayLength, ALine, Unused>(f)?;
             Some(Line::NewArray { name, length, body })
         }
         StatementSort::System => {
-            let (declarations, body) = two_lines(f)?;
+            let (declarations, body, _, _) = four::<ALine, ALine, Unused, Unused>(f)?;
             Some(Line::System { declarations, body })
         }
     }
@@ -126,7 +125,9 @@ fn declaration_line(sort: DeclarationSort, f: &Fields<'_>) -> Option<Line>
 {
     match sort {
         DeclarationSort::Procedure => {
-            let (name, value_formal, variable_formal, body) = three_names_and_line(f)?;
+            let (name, value_formal, variable_formal, body) = four::<AName, AName, AName, ALine>(
+                f,
+            )?;
             Some(Line::Procedure {
                 name,
                 value_formal,
@@ -135,7 +136,7 @@ fn declaration_line(sort: DeclarationSort, f: &Fields<'_>) -> Option<Line>
             })
         }
         DeclarationSort::Join => {
-            let (first, second) = two_lines(f)?;
+            let (first, second, _, _) = four::<ALine, ALine, Unused, Unused>(f)?;
             Some(Line::Join { first, second })
         }
     }
@@ -147,7 +148,7 @@ fn line_of(sort: Sort, f: &Fields<'_>) -> Option<Line>
 {
     match sort {
         Sort::Global => {
-            let (name, length) = name_and_length(f)?;
+            let (name, length, _, _) = four::<AName, GlobalLength, Unused, Unused>(f)?;
             Some(Line::Global { name, length })
         }
         Sort::Expression(sort) => expression_line(sort, f),
@@ -158,12 +159,12 @@ fn line_of(sort: Sort, f: &Fields<'_>) -> Option<Line>
 }
 
 // The sort that a kind field stands for: it is one known character.
-fn kind_of(field: &[u8]) -> Option<Sort>
-    ensures { result ≡ kind_of field.now }
+fn kind_of(field: &[u8]) -> Result<Sort, Cause>
+    ensures { result ≡ ok_or (kind_of field.now) Kind }
 {
     match field {
-        [character] => sort_of(*character),
-        _ => None,
+        [character] => Sort::try_from(*character),
+        _ => Err(Cause::Kind),
     }
 }
 
@@ -171,27 +172,17 @@ fn kind_of(field: &[u8]) -> Option<Sort>
 fn spells(field: &[u8], number: u16) -> bool
     ensures { result ≡ is_number number field.now }
 {
-    match read_number(field, 2048) {
-        Some(n) => n == number as u64,
-        None => false,
-    }
+    read_number(field, 2048) == Some(number as u64)
 }
 
 // What the line of that number says, or why it is refused.
 pub fn read_line(line: &[u8], number: u16) -> Result<Line, Cause>
     ensures { result ≡ line_reading number line.now }
 {
-    let Some(f) = six_fields(line) else {
-        return Err(Cause::Form);
-    };
+    let f = six_fields(line).ok_or(Cause::Form)?;
     if !spells(f.number, number) {
         return Err(Cause::Field);
     }
-    let Some(sort) = kind_of(f.kind) else {
-        return Err(Cause::Kind);
-    };
-    match line_of(sort, &f) {
-        Some(line) => Ok(line),
-        None => Err(Cause::Field),
-    }
+    let sort = kind_of(f.kind)?;
+    line_of(sort, &f).ok_or(Cause::Field)
 }

@@ -1,6 +1,7 @@
 // Why a sheet is refused.
-ghost use Rattle.std.specs.Prelude.{◌≡◌, Some};
-ghost use Rattle.lines.specs.Refusals.{number_of, meaning_of};
+ghost use Rattle.std.specs.Prelude.{◌≡◌, ℕ, Some, None, IfSome};
+ghost use Rattle.std.specs.Fmt.{DisplaysOnOk, DisplaysStyledOnOk, WritesOnOk};
+ghost use Rattle.lines.specs.Refusals.{number_of, meaning_of, told};
 
 use std::error::Error;
 use std::fmt;
@@ -53,8 +54,13 @@ pub struct Refusal<C> {
     pub line: usize,
 }
 
+// Its number, its line and what it means. A bound tells of the number only that `into` may give it, so the text is no `output`, which would be a function of the refusal.
 impl<C: Copy + fmt::Display + Into<u8>> fmt::Display for Refusal<C> {
-    fn fmt<W: fmt::Write>(&self, f: &mut fmt::Formatter<W>) -> fmt::Result {
+    fn fmt<W: fmt::Write>(&self, f: &mut fmt::Formatter<W>) -> fmt::Result
+        ensures writes { DisplaysOnOk W.write_str_gives f.old result None f.new }
+        ensures styled { DisplaysStyledOnOk W.write_str_gives f.old result None f.new }
+        ensures told { (n : ℕ) × C.converts self.now.cause n × IfSome (C.output self.now.cause) (λ meaning. WritesOnOk W.write_str_gives f.old result (told n self.now.line meaning) f.new) }
+    {
         let number: u8 = self.cause.into();
         write!(f, "{number} at line {}: {}", self.line, self.cause)
     }

@@ -1,6 +1,10 @@
 // The sorts of lines, and the character that stands for each.
 ghost use Rattle.std.specs.Prelude.{◌≡◌};
-ghost use Rattle.lines.specs.Sorts.{sort_of};
+ghost use Rattle.std.specs.Option.{ok_or};
+ghost use Rattle.lines.specs.declared.refusals.Cause.TheVariants.{Kind};
+ghost use Rattle.lines.specs.Sorts.{operator_character, relation_character, sort_of};
+
+use crate::refusals::Cause;
 
 #[derive(Clone, Copy, PartialEq, Eq, Debug)]
 pub enum Operator {
@@ -10,10 +14,36 @@ pub enum Operator {
     Over,
 }
 
+// The character that stands for an operator.
+impl From<Operator> for u8 {
+    ghost from_gives = { λ operator character. character ≡ operator_character operator };
+
+    fn from(operator: Operator) -> u8 {
+        match operator {
+            Operator::Plus => b'+',
+            Operator::Minus => b'-',
+            Operator::Times => b'*',
+            Operator::Over => b'/',
+        }
+    }
+}
+
 #[derive(Clone, Copy, PartialEq, Eq, Debug)]
 pub enum Relation {
     Equal,
     Less,
+}
+
+// The character that stands for a relation.
+impl From<Relation> for u8 {
+    ghost from_gives = { λ relation character. character ≡ relation_character relation };
+
+    fn from(relation: Relation) -> u8 {
+        match relation {
+            Relation::Equal => b'=',
+            Relation::Less => b'<',
+        }
+    }
 }
 
 // What a line is. Comments give a term's meaning where its name does not.
@@ -71,34 +101,38 @@ pub enum DeclarationSort {
 }
 
 // The sort that a character stands for.
-pub fn sort_of(character: u8) -> Option<Sort>
-    ensures { result ≡ sort_of character }
-{
-    match character as char {
-        'g' => Some(Sort::Global),
-        'k' => Some(Sort::Expression(ExpressionSort::Constant)),
-        'x' => Some(Sort::Expression(ExpressionSort::Simple)),
-        'a' => Some(Sort::Expression(ExpressionSort::Element)),
-        '+' => Some(Sort::Expression(ExpressionSort::Operation(Operator::Plus))),
-        '-' => Some(Sort::Expression(ExpressionSort::Operation(Operator::Minus))),
-        '*' => Some(Sort::Expression(ExpressionSort::Operation(Operator::Times))),
-        '/' => Some(Sort::Expression(ExpressionSort::Operation(Operator::Over))),
-        '?' => Some(Sort::Expression(ExpressionSort::Choice)),
-        't' => Some(Sort::Condition(ConditionSort::Truth(true))),
-        'f' => Some(Sort::Condition(ConditionSort::Truth(false))),
-        '=' => Some(Sort::Condition(ConditionSort::Comparison(Relation::Equal))),
-        '<' => Some(Sort::Condition(ConditionSort::Comparison(Relation::Less))),
-        '!' => Some(Sort::Condition(ConditionSort::Negation)),
-        '>' => Some(Sort::Condition(ConditionSort::Implication)),
-        's' => Some(Sort::Statement(StatementSort::Assignment)),
-        ';' => Some(Sort::Statement(StatementSort::Sequence)),
-        'i' => Some(Sort::Statement(StatementSort::Branch)),
-        'p' => Some(Sort::Statement(StatementSort::Call)),
-        'v' => Some(Sort::Statement(StatementSort::NewSimple)),
-        'r' => Some(Sort::Statement(StatementSort::NewArray)),
-        'e' => Some(Sort::Statement(StatementSort::System)),
-        'd' => Some(Sort::Declaration(DeclarationSort::Procedure)),
-        '&' => Some(Sort::Declaration(DeclarationSort::Join)),
-        _ => None,
+impl TryFrom<u8> for Sort {
+    type Error = Cause;
+
+    ghost try_from_gives = { λ character r. r ≡ ok_or (sort_of character) Kind };
+
+    fn try_from(character: u8) -> Result<Sort, Cause> {
+        Ok(match character as char {
+            'g' => Sort::Global,
+            'k' => Sort::Expression(ExpressionSort::Constant),
+            'x' => Sort::Expression(ExpressionSort::Simple),
+            'a' => Sort::Expression(ExpressionSort::Element),
+            '+' => Sort::Expression(ExpressionSort::Operation(Operator::Plus)),
+            '-' => Sort::Expression(ExpressionSort::Operation(Operator::Minus)),
+            '*' => Sort::Expression(ExpressionSort::Operation(Operator::Times)),
+            '/' => Sort::Expression(ExpressionSort::Operation(Operator::Over)),
+            '?' => Sort::Expression(ExpressionSort::Choice),
+            't' => Sort::Condition(ConditionSort::Truth(true)),
+            'f' => Sort::Condition(ConditionSort::Truth(false)),
+            '=' => Sort::Condition(ConditionSort::Comparison(Relation::Equal)),
+            '<' => Sort::Condition(ConditionSort::Comparison(Relation::Less)),
+            '!' => Sort::Condition(ConditionSort::Negation),
+            '>' => Sort::Condition(ConditionSort::Implication),
+            's' => Sort::Statement(StatementSort::Assignment),
+            ';' => Sort::Statement(StatementSort::Sequence),
+            'i' => Sort::Statement(StatementSort::Branch),
+            'p' => Sort::Statement(StatementSort::Call),
+            'v' => Sort::Statement(StatementSort::NewSimple),
+            'r' => Sort::Statement(StatementSort::NewArray),
+            'e' => Sort::Statement(StatementSort::System),
+            'd' => Sort::Declaration(DeclarationSort::Procedure),
+            '&' => Sort::Declaration(DeclarationSort::Join),
+            _ => return Err(Cause::Kind),
+        })
     }
 }

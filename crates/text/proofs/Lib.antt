@@ -1,4 +1,3 @@
 pub mod Rows
 pub mod Commas
 pub mod Spelled
-pub mod Placed

@@ -1,7 +1,8 @@
 -- What the spelling of a number is like, and what `parse` reads of it.
-use Rattle.std.proofs.Common.{◌≡◌, ℕ, zero, suc, ◌-◌, ◌^◌, ◌<◌, ◌≤◌, Bool, true, false, cond, ◌&&◌, eqb, leb, List, [], ◌∷◌, length, get_or, ℤ, pos, negsuc, Some, None, Ok, IsUtf8, decimal, Option, Result, sym, refl, ap, ◌∙◌, subst, arith, rules}
+use Rattle.std.proofs.Common.{◌≡◌, ℕ, zero, suc, ◌-◌, ◌^◌, ◌<◌, ◌≤◌, Bool, true, false, cond, ◌&&◌, eqb, leb, List, [], ◌∷◌, length, get_or, ℤ, pos, negsuc, Some, None, Ok, Err, IsUtf8, decimal, Option, Result, sym, refl, ap, ◌∙◌, subst, arith, rules}
 use Rattle.std.specs.Str.Parse.{AllDigits, digits_value, ParsesUnsigned}
 use Rattle.std.specs.Str.{all_ascii_digits}
+use Rattle.std.specs.Result.{result_ok}
 use Rattle.text.specs.Spelling.{SaysNumber, SaysInteger, spelled, number, integer, negative, positive}
 use Rattle.std.specs.List.{between}
 use Rattle.std.proofs.lemmas.Slice.{first_rest}
@@ -121,5 +122,25 @@ pub negative_some : (n : ℕ) (z : ℤ) → (n ≡ 0 → ⊥) → z ≡ negsuc (
 negative_some zero z h e = absurd (h refl)
 negative_some (suc n) z h e = let s : suc n - 1 ≡ n = omega arith in ap Some (e ∙ ap negsuc s)
 
-pub both_integer : (bs : List ℕ) (r : Option ℤ) → r ≡ integer bs → SaysInteger bs r × (r ≡ integer bs)
-both_integer bs r e = (subst (SaysInteger bs) (sym e) (says_integer bs), e)
+pub integer_says : (bs : List ℕ) (r : Option ℤ) → r ≡ integer bs → SaysInteger bs r
+integer_says bs r e = subst (SaysInteger bs) (sym e) (says_integer bs)
+
+-- The steps of a chain of `ok` and `?`: a result that gave a value, and one that gave none.
+pub ok_said : {T E : Type 0} (r : Result T E) (x : T) → Some x ≡ result_ok r → r ≡ Ok x
+ok_said (Ok y) x h = cc
+ok_said (Err y) x h = let z : ◌≡◌ {A = ℕ} 0 1 = cc in absurd (omega arith)
+
+pub err_said : {T E : Type 0} (r : Result T E) → None ≡ result_ok r → (e : E) × (r ≡ Err e)
+err_said (Ok x) h = let z : ◌≡◌ {A = ℕ} 0 1 = cc in absurd (omega arith)
+err_said (Err e) h = (e, refl)
+
+pub number_says : (most : ℕ) (bs : List ℕ) (r : Option ℕ) → most < 2 ^ 64 → r ≡ number most bs → SaysNumber most bs r
+number_says most bs r m e = rw e (says_number most bs m)
+
+pub no_value : {T E : Type 0} (r : Result T E) (x : T) → None ≡ result_ok r → r ≡ Ok x → ⊥
+no_value (Ok y) x h e = let z : ◌≡◌ {A = ℕ} 0 1 = cc in omega arith
+no_value (Err y) x h e = let z : ◌≡◌ {A = ℕ} 0 1 = cc in omega arith
+
+-- a field that no number spells
+pub spells_none : (most : ℕ) (bs : List ℕ) (r : Option ℕ) → most < 2 ^ 64 → r ≡ None → ((n : ℕ) → n ≤ most → bs ≡ decimal n → ⊥) → SaysNumber most bs r × (r ≡ number most bs)
+spells_none most bs r m e h = rw e (both_number most bs None m h)

@@ -22,32 +22,24 @@ fn first_field<'a>(line: &'a [u8]) -> Option<(&'a [u8], &'a [u8])>
     cut(line, b',')
 }
 
-// The fields of a line that has just four.
-fn four_fields<'a>(line: &'a [u8]) -> Option<(&'a [u8], &'a [u8], &'a [u8], &'a [u8])>
-    ensures { MatchOption result (length (fields line.now) ≢ 4) (λ f. fields line.now ≡ f.0.now ∷ f.1.now ∷ f.2.now ∷ f.3.now ∷ []) }
-{
-    let (a, rest) = first_field(line)?;
-    let (b, rest) = first_field(rest)?;
-    let (c, d) = first_field(rest)?;
-    match first_field(d) {
-        Some(_) => None,
-        None => Some((a, b, c, d)),
-    }
-}
-
 // The fields of a line that has just six.
 pub fn six_fields<'a>(line: &'a [u8]) -> Option<Fields<'a>>
     ensures { MatchOption result (length (fields line.now) ≢ 6) (λ f. fields line.now ≡ f.number.now ∷ f.kind.now ∷ f.a.now ∷ f.b.now ∷ f.c.now ∷ f.d.now ∷ []) }
 {
     let (number, rest) = first_field(line)?;
     let (kind, rest) = first_field(rest)?;
-    let (a, b, c, d) = four_fields(rest)?;
-    Some(Fields {
-        number,
-        kind,
-        a,
-        b,
-        c,
-        d,
-    })
+    let (a, rest) = first_field(rest)?;
+    let (b, rest) = first_field(rest)?;
+    let (c, d) = first_field(rest)?;
+    match first_field(d) {
+        Some(_) => None,
+        None => Some(Fields {
+            number,
+            kind,
+            a,
+            b,
+            c,
+            d,
+        }),
+    }
 }

@@ -10,10 +10,7 @@ use crate::cutting::cut;
 pub fn line_text<'a>(text: &'a [u8], number: usize) -> Option<&'a [u8]>
     ensures { option_map (λ x. x.now) result ≡ line_at text.now number }
 {
-    if number == 0 {
-        return None;
-    }
-    line_after(text, number - 1)
+    line_after(text, number.checked_sub(1)?)
 }
 
 // The line after so many others, where it is closed.
@@ -22,13 +19,8 @@ fn line_after<'a>(text: &'a [u8], others: usize) -> Option<&'a [u8]>
 {
     let mut rest = text;
     for passed in 0..others {
-        match cut(rest, b'\n') {
-            Some((_, after)) => rest = after,
-            None => return None,
-        }
+        (_, rest) = cut(rest, b'\n')?;
     }
-    match cut(rest, b'\n') {
-        Some((line, _)) => Some(line),
-        None => None,
-    }
+    let (line, _) = cut(rest, b'\n')?;
+    Some(line)
 }

@@ -9,29 +9,19 @@ pub fn read_number(field: &[u8], most: u64) -> Option<u64>
     ensures spelled { SaysNumber most field.now result }
     ensures value { result ≡ number most field.now }
 {
-    parsed_number(field, most)
-}
-
-// The library's `parse` takes a plus and leading zeros, which no spelling has.
-fn parsed_number(field: &[u8], most: u64) -> Option<u64>
-    ensures { SaysNumber most field.now result × (result ≡ number most field.now) }
-{
-    if field.len() == 0 {
-        return None;
-    }
-    if field[0] == b'+' {
-        return None;
-    }
-    if field[0] == b'0' && field.len() > 1 {
-        return None;
-    }
-    let Ok(text) = str::from_utf8(field) else {
+    let [first, rest @ ..] = field else {
         return None;
     };
-    match text.parse::<u64>() {
-        Ok(n) => if n <= most { Some(n) } else { None },
-        Err(_) => None,
+    // The library's `parse` takes a plus and leading zeros, which no spelling has.
+    if *first == b'+' {
+        return None;
     }
+    if *first == b'0' && !rest.is_empty() {
+        return None;
+    }
+    let text = str::from_utf8(field).ok()?;
+    let n = text.parse::<u64>().ok()?;
+    if n <= most { Some(n) } else { None }
 }
 
 // The integer of 32 bits that the field spells.
@@ -39,25 +29,9 @@ pub fn read_integer(field: &[u8]) -> Option<i32>
     ensures spelled { SaysInteger field.now result }
     ensures value { result ≡ integer field.now }
 {
-    signed_integer(field)
-}
-
-fn signed_integer(field: &[u8]) -> Option<i32>
-    ensures { SaysInteger field.now result × (result ≡ integer field.now) }
-{
-    if field.len() > 0 && field[0] == b'-' {
-        match read_number(&field[1..], 2147483648) {
-            Some(n) => if n == 0 {
-                None
-            } else {
-                Some(-1 - ((n - 1) as i32))
-            },
-            None => None,
-        }
-    } else {
-        match read_number(field, 2147483647) {
-            Some(n) => Some(n as i32),
-            None => None,
-        }
+    if let [b'-', digits @ ..] = field {
+        let n = read_number(digits, 2147483648)?.checked_sub(1)?;
+        return Some(-1 - n as i32);
     }
+    Some(read_number(field, 2147483647)? as i32)
 }

@@ -1,25 +1,45 @@
 // Lines that are written for a reader: a letter and three numbers, as `f,0,0,4`.
-ghost use Rattle.std.specs.Prelude.{◌≡◌, ℕ, ◌+◌, ◌≤◌, ◌∷◌, length, if◌then◌else◌, Ok, Err, decimal, nat_le};
-ghost use Rattle.text.specs.Written.{spelling, placed, refusal_number};
+ghost use Rattle.std.specs.Prelude.{◌≡◌, ℕ, ◌+◌, ◌≤◌, ◌∷◌, ◌++◌, length, Some, if◌then◌else◌, Ok, Err, decimal, nat_le};
+ghost use Rattle.text.specs.Written.{spelling, printed, placed, refusal_number, refusal_meaning};
+ghost use Rattle.arrayvec.specs.ArrayVec.{array_vec_len};
 ghost use Rattle.text.specs.declared.written.WriteRefusal.TheVariants.{BufferTooShort};
 
+use arrayvec::ArrayVec;
+use itoa::Buffer;
+use std::error::Error;
+use std::fmt;
+
 // Why a line is not written.
-#[derive(Clone, Copy)]
+#[derive(Clone, Copy, PartialEq, Eq, Debug)]
 pub enum WriteRefusal {
     BufferTooShort,
 }
 
-impl WriteRefusal {
-    pub fn number(self) -> u8
-        ensures { result ≡ refusal_number self }
-    {
-        match self {
+// The number of a refusal.
+impl From<WriteRefusal> for u8 {
+    ghost from_gives = { λ refusal n. n ≡ refusal_number refusal };
+
+    fn from(refusal: WriteRefusal) -> u8 {
+        match refusal {
             WriteRefusal::BufferTooShort => 20,
         }
     }
 }
 
-#[derive(Clone, Copy)]
+// What it means, in plain words.
+impl fmt::Display for WriteRefusal {
+    ghost output = { λ refusal. Some (refusal_meaning refusal) };
+
+    fn fmt<W: fmt::Write>(&self, f: &mut fmt::Formatter<W>) -> fmt::Result {
+        f.write_str(match self {
+            WriteRefusal::BufferTooShort => "the buffer is too short for the line",
+        })
+    }
+}
+
+impl Error for WriteRefusal {}
+
+#[derive(Clone, Copy, PartialEq, Eq, Debug)]
 pub struct WrittenLine {
     pub letter: u8,
     pub first: u32,
@@ -27,68 +47,54 @@ pub struct WrittenLine {
     pub third: u32,
 }
 
-impl WrittenLine {
-    // How many bytes the line takes, its byte 10 too.
-    fn len(&self) -> usize
-        ensures { result ≡ length (spelling self.now) }
-    {
-        5 + digit_count(self.first) + digit_count(self.second) + digit_count(self.third)
-    }
+// The most bytes that a line takes: its letter, three commas with ten digits each, and byte 10.
+const MOST_BYTES: usize = 35;
 
+impl WrittenLine {
     // Writes the line at the front of the buffer and gives its length; a buffer that is too short stays as it is.
     pub fn write(&self, buffer: &mut [u8]) -> Result<usize, WriteRefusal>
         ensures answer { result ≡ (if nat_le (length (spelling self.now)) (length buffer.old) then Ok (length (spelling self.now)) else Err BufferTooShort) }
         ensures left { buffer.new ≡ (if nat_le (length (spelling self.now)) (length buffer.old) then placed 0 (spelling self.now) buffer.old else buffer.old) }
     {
-        let length = self.len();
+        let line = self.bytes();
+        let length = line.len();
         if buffer.len() < length {
             return Err(WriteRefusal::BufferTooShort);
         }
-        self.put(buffer);
+        buffer[..length].copy_from_slice(line.as_slice());
         Ok(length)
     }
 
-    fn put(&self, buffer: &mut [u8])
-        requires { length (spelling self.now) ≤ length buffer.old }
-        ensures { buffer.new ≡ placed 0 (spelling self.now) buffer.old }
+    fn bytes(&self) -> ArrayVec<u8, MOST_BYTES>
+        ensures { result.items ≡ spelling self.now }
     {
-        buffer[0] = self.letter;
-        let at = put_field(buffer, 1, self.first);
-        let at = put_field(buffer, at, self.second);
-        let at = put_field(buffer, at, self.third);
-        buffer[at] = b'\n';
+        let mut line = ArrayVec::new();
+        line.push(self.letter);
+        push_field(&mut line, self.first);
+        push_field(&mut line, self.second);
+        push_field(&mut line, self.third);
+        line.push(b'\n');
+        line
     }
 }
 
-// How many digits a number has.
-fn digit_count(n: u32) -> usize
-    ensures value { result ≡ length (decimal n) }
-    ensures bound { result ≤ 10 }
+// Puts a comma and the digits of a number after what is there.
+fn push_field(line: &mut ArrayVec<u8, MOST_BYTES>, n: u32)
+    requires { array_vec_len line.old ≤ 24 }
+    ensures items { line.new.items ≡ line.old.items ++ 44 ∷ decimal n }
+    ensures len { array_vec_len line.new ≤ array_vec_len line.old + 11 }
 {
-    if n < 10 { 1 } else { digit_count(n / 10) + 1 }
+    line.push(b',');
+    line.try_extend_from_slice(Buffer::new().format(n).as_bytes())
+        .unwrap();
 }
 
-// Puts a comma and the digits of a number from `at` on, and gives the place after them.
-fn put_field(buffer: &mut [u8], at: usize, n: u32) -> usize
-    requires { at + (1 + length (decimal n)) ≤ length buffer.old }
-    ensures end { result ≡ at + (1 + length (decimal n)) }
-    ensures left { buffer.new ≡ placed at (44 ∷ decimal n) buffer.old }
-{
-    buffer[at] = b',';
-    put_number(buffer, at + 1, n)
-}
+// The line as a text, where its letter is one of ASCII.
+impl fmt::Display for WrittenLine {
+    ghost output = { printed };
 
-// Puts the digits of a number from `at` on, each once and in its place, and gives the place after them.
-fn put_number(buffer: &mut [u8], at: usize, n: u32) -> usize
-    requires { at + length (decimal n) ≤ length buffer.old }
-    ensures end { result ≡ at + length (decimal n) }
-    ensures left { buffer.new ≡ placed at (decimal n) buffer.old }
-{
-    if n < 10 {
-        buffer[at] = b'0' + n as u8;
-        return at + 1;
+    fn fmt<W: fmt::Write>(&self, f: &mut fmt::Formatter<W>) -> fmt::Result {
+        let letter = self.letter as char;
+        writeln!(f, "{letter},{},{},{}", self.first, self.second, self.third)
     }
-    let end = put_number(buffer, at, n / 10);
-    buffer[end] = b'0' + (n % 10) as u8;
-    end + 1
 }
