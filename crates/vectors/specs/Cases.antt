@@ -1,14 +1,15 @@
 -- What a published result says of a kind without infinities.
-use Rattle.std.specs.Prelude.{ℕ, Bool, true, false, cond, ◌&&◌, ◌||◌, Some, None, Option, ◌==◌}
+use Rattle.std.specs.Prelude.{ℕ, Bool, true, false, cond, ◌&&◌, ◌||◌, Some, None, Ok, Err, Option, Result, ◌==◌}
+use Rattle.kinds.specs.declared.fault.ArithmeticFault.{ArithmeticFault}
 use Rattle.kinds.specs.declared.fault.ArithmeticFault.TheVariants.{OutOfRange, ZeroDivisor}
-use Rattle.vectors.specs.declared.answer.Answer.{Answer}
-use Rattle.vectors.specs.declared.answer.Answer.TheVariants.{Word, Fault, Truth}
+use Rattle.vectors.specs.declared.answer.Value.{Value}
+use Rattle.vectors.specs.declared.answer.Value.TheVariants.{Word, Truth}
 use Rattle.vectors.specs.declared.answer.Operation.{Operation}
 use Rattle.vectors.specs.declared.answer.Operation.TheVariants.{Add, Subtract, Multiply, Divide, Equal, Less}
 use Rattle.vectors.specs.declared.case.Case.{Case}
 
 -- a comparison's result: 1 is true, 0 is false
-abbrev pub truth : ℕ → Option Answer
+abbrev pub truth : ℕ → Option Value
 truth w = cond (w == 0) (Some (Truth false)) (cond (w == 1) (Some (Truth true)) None)
 
 -- the words of the two infinities, and of the two zeros
@@ -27,10 +28,10 @@ divides Equal = false
 divides Less = false
 
 -- an infinity is a zero divisor's fault where the divisor is zero, and else out of range
-abbrev pub finitely : Operation → ℕ → Answer → Answer
-finitely o b (Word w) = cond (infinite w) (Fault (cond (divides o && is_zero b) ZeroDivisor OutOfRange)) (Word w)
-finitely o b (Fault f) = Fault f
-finitely o b (Truth t) = Truth t
+abbrev pub finitely : Operation → ℕ → Result Value ArithmeticFault → Result Value ArithmeticFault
+finitely o b (Ok (Word w)) = cond (infinite w) (Err (cond (divides o && is_zero b) ZeroDivisor OutOfRange)) (Ok (Word w))
+finitely o b (Ok (Truth t)) = Ok (Truth t)
+finitely o b (Err f) = Err f
 
 abbrev pub finite_answer : Case → Case
 finite_answer c = record { operation = c.operation; a = c.a; b = c.b; wanted = finitely c.operation c.b c.wanted }

@@ -1,9 +1,12 @@
 // What a number kind gives for an operation on two words.
-ghost use Rattle.std.specs.Prelude.{◌≡◌};
-ghost use Rattle.vectors.specs.Answers.{answered, worked};
+ghost use Rattle.std.specs.Prelude.{◌≡◌, Some};
+ghost use Rattle.vectors.specs.Answers.{answered};
+ghost use Rattle.vectors.specs.Names.{name_of, IsNamed};
 
+use crate::unread::Unread;
 use kinds::{ArithmeticFault, NumberKind};
 use std::fmt;
+use std::str::FromStr;
 
 #[derive(Clone, Copy, PartialEq, Eq)]
 pub enum Operation {
@@ -27,43 +30,58 @@ impl Operation {
 }
 
 impl fmt::Display for Operation {
+    ghost output = { λ operation. Some (name_of operation) };
+
     fn fmt<W: fmt::Write>(&self, f: &mut fmt::Formatter<W>) -> fmt::Result {
-        match self {
-            Operation::Add => write!(f, "add"),
-            Operation::Subtract => write!(f, "sub"),
-            Operation::Multiply => write!(f, "mul"),
-            Operation::Divide => write!(f, "div"),
-            Operation::Equal => write!(f, "eq"),
-            Operation::Less => write!(f, "lt"),
+        f.write_str(match self {
+            Operation::Add => "add",
+            Operation::Subtract => "sub",
+            Operation::Multiply => "mul",
+            Operation::Divide => "div",
+            Operation::Equal => "eq",
+            Operation::Less => "lt",
+        })
+    }
+}
+
+impl FromStr for Operation {
+    type Err = Unread;
+
+    ghost from_str_gives = { IsNamed };
+
+    fn from_str(text: &str) -> Result<Operation, Unread> {
+        match text {
+            "add" => Ok(Operation::Add),
+            "sub" => Ok(Operation::Subtract),
+            "mul" => Ok(Operation::Multiply),
+            "div" => Ok(Operation::Divide),
+            "eq" => Ok(Operation::Equal),
+            "lt" => Ok(Operation::Less),
+            _ => Err(Unread),
         }
     }
 }
 
+// What an operation gives where it has a result.
 #[derive(Clone, Copy, PartialEq, Eq)]
-pub enum Answer {
+pub enum Value {
     Word(u32),
-    Fault(ArithmeticFault),
     Truth(bool),
 }
 
-fn of_result(r: Result<u32, ArithmeticFault>) -> Answer
-    ensures { result ≡ worked r }
-{
-    match r {
-        Ok(w) => Answer::Word(w),
-        Err(fault) => Answer::Fault(fault),
-    }
-}
-
-pub(crate) fn answer_of<K: NumberKind>(operation: Operation, a: u32, b: u32) -> Answer
+pub(crate) fn answer_of<K: NumberKind>(
+    operation: Operation,
+    a: u32,
+    b: u32,
+) -> Result<Value, ArithmeticFault>
     ensures { result ≡ answered K.kind operation a b }
 {
     match operation {
-        Operation::Add => of_result(K::add(a, b)),
-        Operation::Subtract => of_result(K::subtract(a, b)),
-        Operation::Multiply => of_result(K::multiply(a, b)),
-        Operation::Divide => of_result(K::divide(a, b)),
-        Operation::Equal => Answer::Truth(K::equal(a, b)),
-        Operation::Less => Answer::Truth(K::less(a, b)),
+        Operation::Add => K::add(a, b).map(Value::Word),
+        Operation::Subtract => K::subtract(a, b).map(Value::Word),
+        Operation::Multiply => K::multiply(a, b).map(Value::Word),
+        Operation::Divide => K::divide(a, b).map(Value::Word),
+        Operation::Equal => Ok(Value::Truth(K::equal(a, b))),
+        Operation::Less => Ok(Value::Truth(K::less(a, b))),
     }
 }

@@ -1,59 +1,74 @@
 // Holds both number kinds to cases made elsewhere: says how many of each operation agree.
 #![tactic(auto)]
 
+ghost use Rattle.std.specs.Prelude.{◌≡◌, Decides};
+ghost use Rattle.vectors.specs.Answers.{answered};
+
 mod answer;
 mod case;
+mod unread;
 
 use answer::{Operation, answer_of};
-use case::{Case, Source, parsed};
+use case::{Case, finite};
 use kinds::{NumberKind, Single, Whole};
+use std::alloc::{AllocError, Global};
 use std::fs;
 
 // How many cases there are, and in how many the kind gives what is wanted.
 #[derive(Drop)]
 struct Tally {
-    agree: u32,
-    all: u32,
+    agree: usize,
+    all: usize,
 }
 
-impl Tally {
-    fn count<K: NumberKind>(&mut self, case: Case) {
-        self.all = self.all.saturating_add(1);
-        if answer_of::<K>(case.operation, case.a, case.b) == case.wanted {
-            self.agree = self.agree.saturating_add(1);
-        }
+// Whether the kind gives what is wanted.
+fn agrees<K: NumberKind>(case: &Case) -> bool
+    ensures { Decides result (answered K.kind case.now.operation case.now.a case.now.b ≡ case.now.wanted) }
+{
+    answer_of::<K>(case.operation, case.a, case.b) == case.wanted
+}
+
+// The cases that a text's lines spell, each as `adapt` has it.
+fn cases_of<F: Fn(Case) -> Case>(
+    alloc: Global,
+    text: &str,
+    adapt: F,
+) -> Result<Vec<Case>, AllocError>
+    requires { (f : _) (case : _) → F.FnMut.pre f case }
+{
+    text.lines()
+        .filter_map(|line| line.parse::<Case>().ok())
+        .map(adapt)
+        .collect(alloc)
+}
+
+fn tally_of<K: NumberKind>(cases: &[Case], operation: Operation) -> Tally {
+    let asked = |case: &Case| case.operation == operation;
+    Tally {
+        agree: cases
+            .iter()
+            .filter(|case| asked(case) && agrees::<K>(case))
+            .count(),
+        all: cases.iter().filter(|case| asked(case)).count(),
     }
 }
 
-fn tally_of<K: NumberKind>(source: Source, text: &str, operation: Operation) -> Tally {
-    let mut tally = Tally { agree: 0, all: 0 };
-    for line in text.lines() {
-        if let Some(case) = source.case(line) {
-            if case.operation == operation {
-                tally.count::<K>(case);
-            }
-        }
-    }
-    tally
-}
-
-// Lines that are no case.
-fn unread(text: &str) -> u32 {
-    let mut count = 0u32;
-    for line in text.lines() {
-        if parsed(line).is_none() {
-            count = count.saturating_add(1);
-        }
-    }
-    count
+// How many lines are no case.
+fn lines_unread(text: &str) -> usize {
+    text.lines()
+        .filter(|line| line.parse::<Case>().is_err())
+        .count()
 }
 
 fn run(rt: &HostRuntime) -> anyhow::Result<()> {
+    let alloc = rt.alloc();
     let published = fs::read_to_string(rt, "binary32.txt")?;
     let by_hand = fs::read_to_string(rt, "whole.txt")?;
+    let of_single = cases_of(alloc, published.as_str(), finite)?;
+    let of_whole = cases_of(alloc, by_hand.as_str(), |case| case)?;
     for operation in Operation::ALL {
-        let single = tally_of::<Single>(Source::Published, published.as_str(), operation);
-        let whole = tally_of::<Whole>(Source::ByHand, by_hand.as_str(), operation);
+        let single = tally_of::<Single>(of_single.as_slice(), operation);
+        let whole = tally_of::<Whole>(of_whole.as_slice(), operation);
         println!(rt;
             "{operation}: single {} of {}, whole {} of {}",
             single.agree, single.all, whole.agree, whole.all
@@ -61,8 +76,8 @@ fn run(rt: &HostRuntime) -> anyhow::Result<()> {
     }
     println!(rt;
         "not read: {}, {}",
-        unread(published.as_str()),
-        unread(by_hand.as_str())
+        lines_unread(published.as_str()),
+        lines_unread(by_hand.as_str())
     )?;
     Ok(())
 }
