@@ -1,6 +1,8 @@
 -- What a turn of the loop over a sheet's lines does to what is left to read.
-use Rattle.std.proofs.Common.{◌≡◌, ℕ, ◌+◌, ◌<◌, ◌≤◌, true, false, cond, ◌&&◌, eqb, leb, ◌⊎◌, List, [], ◌∷◌, ◌++◌, map, length, get_or, drop, set, None, Ok, Err, Option, Result, sym, refl, ap, ◌∙◌, append_assoc, add-one, arith, rules}
-use Rattle.std.proofs.lemmas.List.{append-nil, length-set, length_push, length-map, map_push, drop_more, set_at}
+use Rattle.std.proofs.Common.{◌≡◌, ℕ, ◌+◌, ◌<◌, ◌≤◌, true, false, Bool, cond, ◌&&◌, eqb, leb, ◌⊎◌, List, [], ◌∷◌, ◌++◌, map, length, get_or, drop, set, Some, None, Ok, Err, Option, Result, sym, refl, ap, ◌∙◌, append_assoc, add-one, inl, inr, min, arith, rules}
+use Rattle.std.proofs.lemmas.List.{append-nil, length-set, length_push, length-map, map_push, drop_more, set_at, set-get_or}
+use Rattle.std.specs.Option.{ok_or}
+use Rattle.std.specs.Result.{IsErr, IsErrAnd}
 use Rattle.text.specs.Cutting.{Absent, CutAt}
 use Rattle.text.specs.Lines.{Row, closed, unclosed, in_front, rows}
 use Rattle.text.proofs.Rows.{rows_cut, rows_unclosed}
@@ -10,7 +12,7 @@ use Rattle.lines.specs.declared.refusals.Cause.{Cause}
 use Rattle.lines.specs.declared.refusals.Cause.TheVariants.{Form, Room}
 use Rattle.lines.specs.declared.refusals.Refusal.{Refusal}
 use Rattle.lines.specs.Reading.{line_reading}
-use Rattle.sheet.specs.Reading.{row_reading, reading, Outcome, refused, then_outcome, from_line, or_count, answer, unresolved, filled}
+use Rattle.sheet.specs.Reading.{FirstReads, FirstRefuses, row_reading, reading, Outcome, refused, then_outcome, from_line, or_count, answer, unresolved, filled}
 
 -- lines before those of an outcome
 abbrev pub after : List Line → Outcome → Outcome
@@ -38,17 +40,34 @@ pub lines_full : (room n : ℕ) (rs : List Row) → 0 < length rs → (2048 < n)
 lines_full room n [] l h = absurd (omega arith)
 lines_full room n (row ∷ rs) l h = lines_step room n row rs ∙ ap (λ r. then_outcome n r (from_line room (n + 1) rs)) (reading_full room n row h)
 
--- the next line is closed, and reads as r
-pub lines_read : (room n : ℕ) (text front back : List ℕ) (r : Result Line Cause) → n ≤ 2048 → n ≤ room → CutAt 10 text front back → r ≡ line_reading n front → from_line room n (rows text) ≡ then_outcome n r (from_line room (n + 1) (rows back))
-lines_read room n text front back r p q c e =
-    ap (from_line room n) (rows_cut text front back c)
-    ∙ (lines_step room n (closed front) (rows back) ∙ ap (λ x. then_outcome n x (from_line room (n + 1) (rows back))) (reading_row room n (closed front) p q ∙ sym e))
+-- the next line reads as l
+pub lines_read : (room n : ℕ) (text after : List ℕ) (l : Line) → n ≤ 2048 → n ≤ room → FirstReads n text l after → from_line room n (rows text) ≡ then_outcome n (Ok l) (from_line room (n + 1) (rows after))
+lines_read room n text after l p q f =
+    ap (from_line room n) f.1 ∙ (lines_step room n f.0 (rows after) ∙ ap (λ r. then_outcome n r (from_line room (n + 1) (rows after))) (reading_row room n f.0 p q ∙ f.2))
 
--- the next line is not closed
-pub lines_unclosed : (room n : ℕ) (text : List ℕ) → n ≤ 2048 → n ≤ room → 0 < length text → Absent 10 text → from_line room n (rows text) ≡ refused Form n
-lines_unclosed room n text p q l h =
-    ap (from_line room n) (rows_unclosed text l h)
-    ∙ (lines_step room n (unclosed text) [] ∙ ap (λ x. then_outcome n x (from_line room (n + 1) [])) (reading_row room n (unclosed text) p q))
+-- the next line is refused
+pub lines_refused : (room n : ℕ) (text : List ℕ) (c : Cause) → n ≤ 2048 → n ≤ room → FirstRefuses n text c → from_line room n (rows text) ≡ refused c n
+lines_refused room n text c p q f =
+    ap (from_line room n) f.2 ∙ (lines_step room n f.0 f.1 ∙ ap (λ r. then_outcome n r (from_line room (n + 1) f.1)) (reading_row room n f.0 p q ∙ f.3))
+
+-- what is known after a `?`
+pub stopped_by : {T E : Type 0} (r : Result T E) (x : E) → IsErr r → IsErrAnd r (λ e. e ≡ x) → r ≡ Err x
+stopped_by (Ok y) x h k = let z : ◌≡◌ {A = ℕ} 0 1 = cc in absurd (omega arith)
+stopped_by (Err y) x h k = ap Err k
+
+pub ok_or_said : {T E : Type 0} (o : Option T) (x y : E) → ◌≡◌ {A = Result T E} (Err x) (ok_or o y) → x ≡ y
+ok_or_said None x y e = cc
+ok_or_said (Some t) x y e = let z : ◌≡◌ {A = ℕ} 0 1 = cc in absurd (omega arith)
+
+-- the first line of a text that is cut, and of one that is not
+pub first_reads : (n : ℕ) (text front after : List ℕ) (l : Line) → CutAt 10 text front after → Ok l ≡ line_reading n front → FirstReads n text l after
+first_reads n text front after l c e = (closed front, rows_cut text front after c, sym e)
+
+pub first_refused : (n : ℕ) (text front after : List ℕ) (x : Cause) → CutAt 10 text front after → Err x ≡ line_reading n front → FirstRefuses n text x
+first_refused n text front after x c e = (closed front, rows after, rows_cut text front after c, sym e)
+
+pub first_unclosed : (n : ℕ) (text : List ℕ) (x : Cause) → 0 < length text → Absent 10 text → x ≡ Form → FirstRefuses n text x
+first_unclosed n text x l h e = (unclosed text, [], rows_unclosed text l h, ap Err (sym e))
 
 -- a text of some bytes has some line
 in_front_some : (b : ℕ) (rs : List Row) → 0 < length (in_front b rs)
@@ -106,3 +125,14 @@ one_more room count text rest back records old ls l s p q k e = record {
   whole = s.whole ∙ (ap (after ls) e ∙ ap (λ xs. record { lines = xs; refusal = (from_line room (count + 1 + 1) (rows back)).refusal }) (sym (append_assoc ls (l ∷ []) (from_line room (count + 1 + 1) (rows back)).lines)));
   memory = ap (λ xs. set xs count (unresolved l)) s.memory ∙ filled_more ls l old count s.counted (omega arith);
 }
+
+-- every place that the loop goes over is taken
+pub all_taken : (room places : ℕ) → places ≡ min room 2048 → (2048 < places + 1) ⊎ (room < places + 1)
+all_taken room places e = by (leb room 2048) refl where
+  by : (b : Bool) → leb room 2048 ≡ b → (2048 < places + 1) ⊎ (room < places + 1)
+  by true h = inr (grind arith)
+  by false h = inl (grind arith)
+
+-- a place that is written with what it held
+pub unwritten : (xs ys : List Record) (i : ℕ) (d : Record) → set xs i (get_or xs i d) ++ ys ≡ xs ++ ys
+unwritten xs ys i d = ap (λ zs. zs ++ ys) (set-get_or xs i d)

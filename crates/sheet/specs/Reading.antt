@@ -1,5 +1,5 @@
 -- Reading a sheet: what its lines say, and the first line at fault.
-use Rattle.std.specs.Prelude.{ℕ, suc, Bool, cond, ◌&&◌, List, [], ◌∷◌, ◌++◌, map, length, drop, Some, None, Ok, Err, Option, Result, nat_le}
+use Rattle.std.specs.Prelude.{◌≡◌, ℕ, suc, Bool, cond, ◌&&◌, List, [], ◌∷◌, ◌++◌, map, length, drop, Some, None, Ok, Err, Option, Result, nat_le}
 use Rattle.text.specs.Lines.{Row, closed, unclosed, rows}
 use Rattle.lines.specs.declared.records.Line.{Line}
 use Rattle.lines.specs.declared.records.Record.{Record}
@@ -13,7 +13,15 @@ abbrev pub row_reading : ℕ → Row → Result Line Cause
 row_reading n (closed l) = line_reading n l
 row_reading n (unclosed l) = Err Form
 
--- The same with `room` records lent: line 2,049, and a line that no record is left for, are refused before anything else.
+-- the first line of a text, which is line n, says this, and this is the text after it
+abbrev pub FirstReads : ℕ → List ℕ → Line → List ℕ → Type 0
+FirstReads n text l after = (row : Row) × (rows text ≡ row ∷ rows after) × (row_reading n row ≡ Ok l)
+
+-- the first line of a text, which is line n, is refused
+abbrev pub FirstRefuses : ℕ → List ℕ → Cause → Type 0
+FirstRefuses n text c = (row : Row) × (later : List Row) × (rows text ≡ row ∷ later) × (row_reading n row ≡ Err c)
+
+-- The reading of a line with `room` records lent: line 2,049, and a line that no record is left for, are refused before anything else.
 abbrev pub reading : ℕ → ℕ → Row → Result Line Cause
 reading room n row = cond (nat_le n 2048 && nat_le n room) (row_reading n row) (Err Room)
 

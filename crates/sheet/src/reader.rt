@@ -1,13 +1,13 @@
 // The reader: from the text of a sheet to its records.
-ghost use Rattle.std.specs.Prelude.{◌≡◌, ℕ, ◌≤◌, length, IfOk, Result};
+ghost use Rattle.std.specs.Prelude.{◌≡◌, ℕ, ◌<◌, ◌≤◌, length, IfOk, MatchResult, Result};
 ghost use Rattle.lines.specs.declared.refusals.Cause.{Cause};
 ghost use Rattle.lines.specs.declared.refusals.Refusal.{Refusal};
 ghost use Rattle.text.specs.Lines.{rows};
-ghost use Rattle.sheet.specs.Reading.{outcome, from_line, answer, filled};
+ghost use Rattle.sheet.specs.Reading.{outcome, from_line, answer, filled, FirstReads, FirstRefuses};
 ghost use Rattle.sheet.specs.Verdict.{Verdict};
 
 use lines::reading::read_line;
-use lines::records::Record;
+use lines::records::{Line, Record};
 use lines::refusals::{Cause, Refusal};
 use text::cutting::cut;
 
@@ -23,7 +23,7 @@ pub fn read_lines(text: &[u8], records: &mut [Record]) -> Result<usize, Refusal<
     ensures only { (s : Result ℕ (Refusal Cause)) → Verdict (length records.old) text.now s → s ≡ result }
     ensures left { records.new ≡ filled (outcome (length records.old) text.now).lines records.old }
 {
-    if text.len() == 0 || text.len() > MOST_BYTES {
+    if text.is_empty() || text.len() > MOST_BYTES {
         return Err(Refusal {
             cause: Cause::TextSize,
             line: 0,
@@ -32,39 +32,46 @@ pub fn read_lines(text: &[u8], records: &mut [Record]) -> Result<usize, Refusal<
     fill(text, records)
 }
 
+// Reads the lines into the records, whatever the size of the text.
 fn fill(text: &[u8], records: &mut [Record]) -> Result<usize, Refusal<Cause>>
     ensures answer { result ≡ answer (from_line (length records.old) 1 (rows text.now)) }
     ensures bound { IfOk result (λ count. count ≤ length records.old) }
     ensures left { records.new ≡ filled (from_line (length records.old) 1 (rows text.now)).lines records.old }
 {
+    let room = records.len().min(MOST_LINES);
     let mut rest = text;
-    let mut count = 0;
-    while rest.len() > 0 {
-        let number = (count + 1) as u16;
-        if count >= MOST_LINES || count >= records.len() {
-            return Err(Refusal {
-                cause: Cause::Room,
-                line: count + 1,
-            });
+    for (index, record) in records[..room].iter_mut().enumerate() {
+        if rest.is_empty() {
+            return Ok(index);
         }
-        let Some((line, after)) = cut(rest, b'\n') else {
-            return Err(Refusal {
-                cause: Cause::Form,
-                line: count + 1,
-            });
-        };
-        match read_line(line, number) {
-            Ok(line) => records[count] = Record {
-                line,
-                declaration: None,
-            },
+        match next_line(rest, (index + 1) as u16) {
+            Ok((line, after)) => {
+                *record = Record {
+                    line,
+                    declaration: None,
+                };
+                rest = after;
+            }
             Err(cause) => return Err(Refusal {
                 cause,
-                line: count + 1,
+                line: index + 1,
             }),
         }
-        count += 1;
-        rest = after;
     }
-    Ok(count)
+    if rest.is_empty() {
+        return Ok(room);
+    }
+    Err(Refusal {
+        cause: Cause::Room,
+        line: room + 1,
+    })
+}
+
+// What the first line of some text says, which is the line of that number, and the text after it.
+fn next_line<'a>(text: &'a [u8], number: u16) -> Result<(Line, &'a [u8]), Cause>
+    requires { 0 < length text.now }
+    ensures { MatchResult result (λ p. FirstReads number text.now p.0 p.1.now) (FirstRefuses number text.now) }
+{
+    let (line, after) = cut(text, b'\n').ok_or(Cause::Form)?;
+    Ok((read_line(line, number)?, after))
 }
