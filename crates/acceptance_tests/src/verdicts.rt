@@ -1,25 +1,20 @@
 // Every cause of refusal, in its order, for whole numbers and for singles.
-use crate::samples::SHEETS;
+use crate::samples::{SHEETS, Told};
 use acceptance::verdict::accept;
 use kinds::{NumberKind, Single, Whole};
-use lines::records::{Line, Record};
+use lines::records::Record;
 use sheet::reader::read_lines;
 use std::alloc::{AllocError, Global};
 use std::test::Fail;
 
-const BLANK: Record = Record {
-    line: Line::Truth { value: false },
-    declaration: None,
-};
-
-// The number and the line of the refusal, or 0 and 0; a sheet that is not even read is 99.
-fn verdict<K: NumberKind>(text: &str, records: &mut [Record]) -> (u8, usize) {
+// What the sheet is refused for, if it is.
+fn verdict<K: NumberKind>(text: &str, records: &mut [Record]) -> Result<Told, Fail> {
     let Ok(count) = read_lines(text.as_bytes(), records) else {
-        return (99, 0);
+        return Err(Fail::new("the sheet is not even read"));
     };
     match accept::<K>(&records[0..count]) {
-        Ok(()) => (0, 0),
-        Err(refusal) => (refusal.cause.number(), refusal.line),
+        Ok(()) => Ok(None),
+        Err(refusal) => Ok(Some((refusal.cause.into(), refusal.line))),
     }
 }
 
@@ -48,23 +43,24 @@ fn nested(heap: Global, negations: u16) -> Result<String, AllocError> {
 }
 
 #[test]
-fn sheets_have_their_verdicts(rt: HostRuntime) {
-    for (text, number, line, single_number, single_line) in SHEETS {
-        let mut records = [BLANK; 40];
-        assert_eq!(rt; verdict::<Whole>(text, &mut records), (number, line));
-        assert_eq!(rt;
-            verdict::<Single>(text, &mut records),
-            (single_number, single_line)
-        );
+fn sheets_have_their_verdicts(rt: HostRuntime) -> Result<(), Fail> {
+    for (text, whole, single) in SHEETS {
+        let mut records = [Record::BLANK; 40];
+        assert_eq!(rt; verdict::<Whole>(text, &mut records)?, whole);
+        assert_eq!(rt; verdict::<Single>(text, &mut records)?, single);
     }
+    Ok(())
 }
 
 #[test]
 fn depth_ends_at_64(rt: HostRuntime) -> Result<(), Fail> {
-    let mut records = [BLANK; 80];
+    let mut records = [Record::BLANK; 80];
     let deepest = nested(rt.alloc(), 63)?;
-    assert_eq!(rt; verdict::<Whole>(deepest.as_str(), &mut records), (0, 0));
+    assert_eq!(rt; verdict::<Whole>(deepest.as_str(), &mut records)?, None);
     let deeper = nested(rt.alloc(), 64)?;
-    assert_eq!(rt; verdict::<Whole>(deeper.as_str(), &mut records), (9, 66));
+    assert_eq!(rt;
+        verdict::<Whole>(deeper.as_str(), &mut records)?,
+        Some((9, 66))
+    );
     Ok(())
 }

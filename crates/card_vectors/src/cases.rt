@@ -1,76 +1,82 @@
 // Cases as the file spells them.
-use std::alloc::{AllocError, Global};
+ghost use Rattle.std.specs.Prelude.{◌<◌, ◌≤◌, length, IfSome};
+
+use lines::refusals::Refusal;
 use std::str::from_utf8;
 use text::cutting::cut;
 
-// A sheet, and the number and the line of the refusal that it should get, if any.
-#[derive(Drop)]
-pub struct Case {
-    pub sheet: Vec<u8>,
-    pub refusal: Option<(u8, usize)>,
+// What a refusal is told as: its number and its line.
+#[derive(Clone, Copy, PartialEq, Eq)]
+pub struct Told {
+    pub number: u8,
+    pub line: usize,
+}
+
+impl<C: Into<u8>> From<Refusal<C>> for Told {
+    fn from(refusal: Refusal<C>) -> Told {
+        Told {
+            number: refusal.cause.into(),
+            line: refusal.line,
+        }
+    }
+}
+
+// A sheet, and the refusal that it should get, if any.
+#[derive(Clone, Copy)]
+pub struct Case<'a> {
+    pub sheet: &'a [u8],
+    pub refusal: Option<Told>,
 }
 
 // The number after a word, as in `sheet 25`.
 fn count_after(line: &[u8], word: &str) -> Option<u16> {
-    let Ok(text) = from_utf8(line) else {
-        return None;
-    };
-    let number = text.strip_prefix(word)?;
-    number.parse::<u16>().ok()
+    let number = from_utf8(line).ok()?.strip_prefix(word)?;
+    number.parse().ok()
 }
 
 // The number and the line of a refusal, as in `r,6,4,0`.
-fn refusal_of(line: &[u8]) -> Option<(u8, usize)> {
-    let Ok(text) = from_utf8(line) else {
-        return None;
-    };
-    let rest = text.strip_prefix("r,")?;
+fn refusal_of(line: &[u8]) -> Option<Told> {
+    let rest = from_utf8(line).ok()?.strip_prefix("r,")?;
     let (number, rest) = rest.split_once(',')?;
     let (line, _) = rest.split_once(',')?;
-    Some((number.parse::<u8>().ok()?, line.parse::<usize>().ok()?))
+    Some(Told {
+        number: number.parse().ok()?,
+        line: line.parse().ok()?,
+    })
 }
 
 // The next case, and the text after it; nothing where the text has no more.
-pub fn next_case<'a>(heap: Global, text: &'a [u8]) -> Result<Option<(Case, &'a [u8])>, AllocError> {
-    let mut sheet = Vec::new(heap);
-    let Some(rest) = take_sheet(&mut sheet, text)? else {
-        return Ok(None);
-    };
-    let Some((refusal, rest)) = take_wanted(rest) else {
-        return Ok(None);
-    };
-    Ok(Some((Case { sheet, refusal }, rest)))
+pub fn next_case<'a>(text: &'a [u8]) -> Option<(Case<'a>, &'a [u8])>
+    ensures { IfSome result (λ p. length p.1.now < length text.now) }
+{
+    let (sheet, rest) = take_sheet(text)?;
+    let (refusal, rest) = take_wanted(rest)?;
+    Some((Case { sheet, refusal }, rest))
 }
 
-// Copies the lines after `sheet N`, and gives the text after them.
-fn take_sheet<'a>(sheet: &mut Vec<u8>, text: &'a [u8]) -> Result<Option<&'a [u8]>, AllocError> {
-    let Some((head, mut rest)) = cut(text, b'\n') else {
-        return Ok(None);
-    };
-    let Some(count) = count_after(head, "sheet ") else {
-        return Ok(None);
-    };
-    for _ in 0..count {
-        let Some((line, after)) = cut(rest, b'\n') else {
-            return Ok(None);
-        };
-        sheet.extend_from_slice(line)?;
-        sheet.push(b'\n')?;
-        rest = after;
+// The lines after `sheet N`, and the text after them.
+#[tactic(auto, using(crate::proofs::Shorter::shorter))]
+fn take_sheet<'a>(text: &'a [u8]) -> Option<(&'a [u8], &'a [u8])>
+    ensures { IfSome result (λ p. length p.1.now < length text.now) }
+{
+    let (head, lines) = cut(text, b'\n')?;
+    let mut rest = lines;
+    for _ in 0..count_after(head, "sheet ")? {
+        (_, rest) = cut(rest, b'\n')?;
     }
-    Ok(Some(rest))
+    Some((&lines[..lines.len() - rest.len()], rest))
 }
 
 // The refusal that the lines after `want N` tell, if any, and the text after them.
-fn take_wanted<'a>(text: &'a [u8]) -> Option<(Option<(u8, usize)>, &'a [u8])> {
+#[tactic(auto, using(crate::proofs::Shorter::shorter))]
+fn take_wanted<'a>(text: &'a [u8]) -> Option<(Option<Told>, &'a [u8])>
+    ensures { IfSome result (λ p. length p.1.now ≤ length text.now) }
+{
     let (head, mut rest) = cut(text, b'\n')?;
-    let count = count_after(head, "want ")?;
     let mut refusal = None;
-    for _ in 0..count {
+    for _ in 0..count_after(head, "want ")? {
         let (line, after) = cut(rest, b'\n')?;
-        if let Some(found) = refusal_of(line) {
-            refusal = Some(found);
-        }
+        refusal = refusal_of(line).or(refusal);
         rest = after;
     }
     Some((refusal, rest))

@@ -4,58 +4,59 @@
 mod cases;
 
 use acceptance::verdict::accept;
-use cases::next_case;
+use cases::{Told, next_case};
 use kinds::Whole;
-use lines::records::{Line, Record};
+use lines::records::Record;
 use sheet::reader::{MOST_LINES, read_lines};
 use std::fs;
 
-const BLANK: Record = Record {
-    line: Line::Truth { value: false },
-    declaration: None,
-};
+// How many cases came out as they should, and how many did not.
+#[derive(Drop)]
+struct Tally {
+    accepted: u32,
+    refused: u32,
+    wrong: u32,
+}
 
-// More cases than the file has.
-const MOST_CASES: u32 = 100000;
-
-// The number and the line of the refusal, or nothing where the sheet is a script for whole numbers.
-fn refusal(sheet: &[u8], records: &mut [Record]) -> Option<(u8, usize)> {
-    let count = match read_lines(sheet, records) {
-        Ok(count) => count,
-        Err(refusal) => return Some((refusal.cause.number(), refusal.line as usize)),
-    };
-    match accept::<Whole>(&records[0..count]) {
-        Ok(()) => None,
-        Err(refusal) => Some((refusal.cause.number(), refusal.line)),
+impl Tally {
+    fn count(&mut self, answer: Option<Told>, wanted: Option<Told>) {
+        let counter = if answer != wanted {
+            &mut self.wrong
+        } else if answer.is_some() {
+            &mut self.refused
+        } else {
+            &mut self.accepted
+        };
+        *counter = counter.saturating_add(1);
     }
 }
 
-fn run(rt: &HostRuntime) -> anyhow::Result<()> {
-    let text = fs::read(rt, "runs.txt")?;
-    let mut records = vec![in rt.alloc(); BLANK; MOST_LINES]?;
-    let mut rest = text.as_slice();
-    let mut accepted = 0u32;
-    let mut refused = 0u32;
-    let mut wrong = 0u32;
-    for _ in 0..MOST_CASES {
-        let Some((case, after)) = next_case(rt.alloc(), rest)? else {
-            break;
-        };
-        let answer = refusal(&case.sheet, &mut records);
-        if answer != case.refusal {
-            wrong = wrong.saturating_add(1);
-        } else if answer.is_some() {
-            refused = refused.saturating_add(1);
-        } else {
-            accepted = accepted.saturating_add(1);
-        }
-        rest = after;
-    }
-    println!(rt; "accepted: {accepted}, refused: {refused}, wrong: {wrong}")?;
-    println!(rt; "bytes left: {}", rest.len())?;
-    Ok(())
+// The refusal of a sheet, or nothing where it is a script for whole numbers.
+fn refusal(sheet: &[u8], records: &mut [Record]) -> Option<Told> {
+    let count = match read_lines(sheet, records) {
+        Ok(count) => count,
+        Err(refusal) => return Some(refusal.into()),
+    };
+    accept::<Whole>(&records[0..count]).err().map(Told::from)
 }
 
 fn main(rt: HostRuntime) -> anyhow::Result<()> {
-    run(&rt)
+    let text = fs::read(&rt, "runs.txt")?;
+    let mut records = vec![in rt.alloc(); Record::BLANK; MOST_LINES]?;
+    let mut tally = Tally {
+        accepted: 0,
+        refused: 0,
+        wrong: 0,
+    };
+    let mut rest = text.as_slice();
+    while let Some((case, after)) = next_case(rest) {
+        tally.count(refusal(case.sheet, &mut records), case.refusal);
+        rest = after;
+    }
+    println!(rt;
+        "accepted: {}, refused: {}, wrong: {}",
+        tally.accepted, tally.refused, tally.wrong
+    )?;
+    println!(rt; "bytes left: {}", rest.len())?;
+    Ok(())
 }

@@ -7,8 +7,7 @@ use acceptance::verdict::accept;
 use account::kinds_of_line::count_kind;
 use account::printable::printable_part;
 use kinds::{NumberKind, Single, Whole};
-use lines::records::{Line, Record};
-use lines::refusals::Refusal;
+use lines::records::{Line, Name, Record};
 use sheet::reader::{MOST_BYTES, MOST_LINES, read_lines};
 use std::io::Read;
 use std::str::from_utf8;
@@ -16,15 +15,15 @@ use text::lines::line_text;
 use words::KINDS;
 
 // The card's bytes: one past the most that a sheet may have is enough to refuse it.
-fn read_card(rt: &HostRuntime) -> anyhow::Result<Vec<u8>> {
+fn read_card(rt: &(impl Input + AllocGlobal)) -> anyhow::Result<Vec<u8>> {
     let mut bytes = Vec::new(rt.alloc());
-    rt.stdin()
+    rt.reader()
         .take(MOST_BYTES as u64 + 1)
         .read_to_end(&mut bytes)?;
     Ok(bytes)
 }
 
-fn tell_lines(rt: &HostRuntime, records: &[Record]) -> anyhow::Result<()> {
+fn tell_lines(rt: &impl Print, records: &[Record]) -> anyhow::Result<()> {
     println!(rt; "accepted as lines: {}", records.len())?;
     for (character, words) in KINDS {
         let count = count_kind(records, character);
@@ -38,7 +37,7 @@ fn tell_lines(rt: &HostRuntime, records: &[Record]) -> anyhow::Result<()> {
     Ok(())
 }
 
-fn tell_global(rt: &HostRuntime, name: u8, length: u16) -> anyhow::Result<()> {
+fn tell_global(rt: &impl Print, name: Name, length: u16) -> anyhow::Result<()> {
     if length == 0 {
         println!(rt; "global simple variable {name}")?;
     } else {
@@ -48,7 +47,7 @@ fn tell_global(rt: &HostRuntime, name: u8, length: u16) -> anyhow::Result<()> {
 }
 
 // The text of a line, as far as it can be printed.
-fn tell_line(rt: &HostRuntime, text: &[u8], number: usize) -> anyhow::Result<()> {
+fn tell_line(rt: &impl Print, text: &[u8], number: usize) -> anyhow::Result<()> {
     let Some(line) = line_text(text, number) else {
         return Ok(());
     };
@@ -58,59 +57,35 @@ fn tell_line(rt: &HostRuntime, text: &[u8], number: usize) -> anyhow::Result<()>
     Ok(())
 }
 
-fn tell_refusal(rt: &HostRuntime, text: &[u8], refusal: Refusal) -> anyhow::Result<()> {
-    let number = refusal.cause.number();
-    println!(rt;
-        "refused: {number} at line {}: {}",
-        refusal.line,
-        refusal.cause.meaning()
-    )?;
-    tell_line(rt, text, refusal.line as usize)
-}
-
 // Whether the lines are a script for a number kind, which is named in words.
 fn tell_acceptance<K: NumberKind>(
-    rt: &HostRuntime,
+    rt: &impl Print,
     text: &[u8],
     records: &[Record],
     kind: &str,
 ) -> anyhow::Result<()> {
-    match accept::<K>(records) {
-        Ok(()) => {
-            println!(rt; "accepted for {kind}")?;
-            Ok(())
-        }
-        Err(refusal) => {
-            let number = refusal.cause.number();
-            println!(rt;
-                "refused for {kind}: {number} at line {}: {}",
-                refusal.line,
-                refusal.cause.meaning()
-            )?;
-            tell_line(rt, text, refusal.line)
-        }
-    }
+    let Err(refusal) = accept::<K>(records) else {
+        println!(rt; "accepted for {kind}")?;
+        return Ok(());
+    };
+    println!(rt; "refused for {kind}: {refusal}")?;
+    tell_line(rt, text, refusal.line)
 }
 
-fn tell_sheet(rt: &HostRuntime, text: &[u8], records: &[Record]) -> anyhow::Result<()> {
+fn tell_sheet(rt: &impl Print, text: &[u8], records: &[Record]) -> anyhow::Result<()> {
     tell_lines(rt, records)?;
     tell_acceptance::<Whole>(rt, text, records, "whole numbers")?;
     tell_acceptance::<Single>(rt, text, records, "singles")
 }
 
-fn run(rt: &HostRuntime) -> anyhow::Result<()> {
-    let card = read_card(rt)?;
-    let blank = Record {
-        line: Line::Truth { value: false },
-        declaration: None,
-    };
-    let mut records = vec![in rt.alloc(); blank; MOST_LINES]?;
-    match read_lines(&card, &mut records) {
-        Ok(count) => tell_sheet(rt, &card, &records[0..count]),
-        Err(refusal) => tell_refusal(rt, &card, refusal),
-    }
-}
-
 fn main(rt: HostRuntime) -> anyhow::Result<()> {
-    run(&rt)
+    let card = read_card(&rt)?;
+    let mut records = vec![in rt.alloc(); Record::BLANK; MOST_LINES]?;
+    match read_lines(&card, &mut records) {
+        Ok(count) => tell_sheet(&rt, &card, &records[0..count]),
+        Err(refusal) => {
+            println!(rt; "refused: {refusal}")?;
+            tell_line(&rt, &card, refusal.line)
+        }
+    }
 }
