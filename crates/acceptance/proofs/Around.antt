@@ -1,6 +1,7 @@
 -- What is around a line, one user at a time; and the procedures that declarations have.
 use Rattle.std.proofs.Common.{◌≡◌, ℕ, zero, suc, ◌+◌, ◌-◌, ◌<◌, ◌≤◌, Bool, true, false, ◌&&◌, ◌||◌, eqb, ltb, List, [], ◌∷◌, ◌++◌, length, get_or, sym, refl, ap, ◌∙◌, ap₂, inl, inr, add-one, arith}
 use Rattle.std.proofs.lemmas.Bool.{both_ways, cases_lt, le-ltb, lt-ltb}
+use Rattle.std.proofs.Math.Bool.{or-false, or_assoc}
 use Rattle.lines.specs.declared.records.Line.{Line}
 use Rattle.script.specs.Tree.{grow, line, nought}
 use Rattle.script.specs.Fields.{fields, named_in}
@@ -31,10 +32,6 @@ pub named_from_one : (ls : List Line) (m k : ℕ) → stands m (named_in (fields
 named_from_one ls m zero h = absurd (both_ways false refl h)
 named_from_one ls m (suc k) h = omega arith
 
-or_assoc : (a b c : Bool) → ((a || b) || c) ≡ (a || (b || c))
-or_assoc true b c = refl
-or_assoc false b c = refl
-
 module _ (n q : ℕ) where
   taken_append : (xs ys : List (ℕ × ℕ)) → taken_before n q (xs ++ ys) ≡ (taken_before n q xs || taken_before n q ys)
   taken_append [] ys = refl
@@ -61,10 +58,6 @@ module _ (n q : ℕ) where
       | inr w ↦ ap (taken_before n q) (grow_beyond procedures_at L [] a m w) ∙ sym (ap (λ b. b && taken m) (le-ltb m a w))
     ]
 
-    or_none : (b : Bool) → (b || false) ≡ b
-    or_none true = refl
-    or_none false = refl
-
     taken_cases : (a : ℕ) (g : Naming) → taken_before n q (procedures_by (λ m. get_or (grow procedures_at L a) m []) a g) ≡ taken_step a g
     taken_cases a silent = refl
     taken_cases a (uses_simple x) = refl
@@ -73,7 +66,7 @@ module _ (n q : ℕ) where
     taken_cases a (opens_simple x) = refl
     taken_cases a (opens_array x) = refl
     taken_cases a (opens_system x) = refl
-    taken_cases a (opens_body p x y) = or_none (ltb a n && eqb p q)
+    taken_cases a (opens_body p x y) = or-false (ltb a n && eqb p q)
     taken_cases a (joins x y) = taken_append (get_or (grow procedures_at L a) x []) (get_or (grow procedures_at L a) y []) ∙ ap₂ ◌||◌ (below a x) (below a y)
 
     pub taken_at : (a : ℕ) (l : Line) → l ≡ L a → taken a ≡ taken_step a (naming l)

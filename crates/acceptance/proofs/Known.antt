@@ -1,6 +1,7 @@
 -- Names among what is around a line, and among the globals.
-use Rattle.std.proofs.Common.{◌≡◌, ℕ, zero, suc, ◌+◌, ◌-◌, ◌<◌, ◌≤◌, Bool, true, false, ◌&&◌, ◌||◌, eqb, List, [], ◌∷◌, length, get_or, drop, sym, refl, ap, ◌∙◌, inl, inr, arith}
+use Rattle.std.proofs.Common.{◌≡◌, ℕ, zero, suc, ◌+◌, ◌-◌, ◌<◌, ◌≤◌, Bool, false, ◌&&◌, ◌||◌, eqb, List, [], ◌∷◌, length, get_or, drop, sym, refl, ap, ◌∙◌, inl, inr, arith}
 use Rattle.std.proofs.lemmas.List.{at_drop_more}
+use Rattle.std.proofs.Math.Bool.{or-false, or_assoc}
 use Rattle.lines.specs.declared.records.Line.{Line}
 use Rattle.lines.specs.declared.records.Record.{Record}
 use Rattle.script.specs.Tree.{line}
@@ -8,24 +9,14 @@ use Rattle.script.specs.Apart.{Globals, Scope, as_global, global_of, globals_fro
 use Rattle.script.specs.Around.{Naming, around, handed, inside, inside_by, joins, naming, opens_array, opens_body, opens_simple, opens_system, silent, user, uses_array, uses_procedure, uses_simple, with_listed}
 use Rattle.script.specs.Tests.{among, under}
 use Rattle.script.proofs.Globals.{global_or}
+use Rattle.script.proofs.Passes.{or_swap}
 use Rattle.acceptance.specs.declared.scopes.Sought.{Sought}
 use Rattle.acceptance.specs.declared.scopes.Sought.TheVariants.{Simple, Array, Procedure}
 use Rattle.acceptance.specs.Scopes.{any_global, declares, known, listed, suits, wants_procedure}
 use Rattle.acceptance.specs.Sheet.{lines_of}
 
-or_assoc : (a b c : Bool) → ((a || b) || c) ≡ (a || (b || c))
-or_assoc true b c = refl
-or_assoc false b c = refl
-
-or_swap : (b c d : Bool) → (c || (b || d)) ≡ ((b || c) || d)
-or_swap true true d = refl
-or_swap true false d = refl
-or_swap false true d = refl
-or_swap false false d = refl
-
-or_none : (b : Bool) → (b || false) ≡ b
-or_none true = refl
-or_none false = refl
+or_shift : (b c d : Bool) → (c || (b || d)) ≡ ((b || c) || d)
+or_shift b c d = or_swap c b d ∙ sym (or_assoc b c d)
 
 abbrev with_one : ℕ × ℕ → Scope → Scope
 with_one r s = record { simples = s.simples; arrays = s.arrays; procs = (r.1, own r.0) ∷ s.procs }
@@ -36,7 +27,7 @@ among_listed Simple a (r ∷ rs) s = among_listed Simple a rs (with_one r s)
 among_listed Array a [] s = refl
 among_listed Array a (r ∷ rs) s = among_listed Array a rs (with_one r s)
 among_listed Procedure a [] s = refl
-among_listed Procedure a (r ∷ rs) s = among_listed Procedure a rs (with_one r s) ∙ or_swap (eqb r.1 a) (listed a rs) (among s.procs a)
+among_listed Procedure a (r ∷ rs) s = among_listed Procedure a rs (with_one r s) ∙ or_shift (eqb r.1 a) (listed a rs) (among s.procs a)
 
 among_inside : (k : Sought) (a : ℕ) (Q : ℕ → List (ℕ × ℕ)) (n : ℕ) (g : Naming) (s : Scope)
     → among (known k (inside_by Q n g s)) a ≡ (declares k a Q g || among (known k s) a)
@@ -78,13 +69,13 @@ module _ (k : Sought) (a : ℕ) where
   globals_known n (p ∷ ps) g =
       globals_known (suc n) ps (global_of n p.0 p.1 g)
       ∙ (ap (λ b. any_global k a ps || b) (global_one n p.0 p.1 g)
-      ∙ or_swap (suits k p.1 && eqb p.0 a) (any_global k a ps) (among (known k g.scope) a))
+      ∙ or_shift (suits k p.1 && eqb p.0 a) (any_global k a ps) (among (known k g.scope) a))
 
   none_known : among (known k no_globals.scope) a ≡ false
   none_known = elim k as (λ j. among (known j no_globals.scope) a ≡ false) [ Simple ↦ refl | Array ↦ refl | Procedure ↦ refl ]
 
   pub globals_are : (ls : List Line) → among (known k (globals_of ls).scope) a ≡ any_global k a (heads ls)
-  globals_are ls = globals_known 1 (heads ls) no_globals ∙ (ap (λ b. any_global k a (heads ls) || b) none_known ∙ or_none (any_global k a (heads ls)))
+  globals_are ls = globals_known 1 (heads ls) no_globals ∙ (ap (λ b. any_global k a (heads ls) || b) none_known ∙ or-false (any_global k a (heads ls)))
 
   module _ (rs : List Record) (i : ℕ) where
     abbrev pub globals_from_place : ℕ → Bool

@@ -1,6 +1,7 @@
 -- Whether a line is named, and the counts that the tests take.
 use Rattle.std.proofs.Common.{◌≡◌, ℕ, zero, suc, ◌+◌, Bool, true, false, not, ◌||◌, eqb, ltb, List, [], ◌∷◌, ◌++◌, sym, refl, ap, ◌∙◌, ap₂, arith}
 use Rattle.std.proofs.lemmas.Bool.{lt-ltb, ne_eqb}
+use Rattle.std.proofs.Math.Bool.{or_assoc, or_comm}
 use Rattle.lines.specs.declared.records.Line.{Line}
 use Rattle.script.specs.Fields.{fields, named_in}
 use Rattle.script.specs.Lists.{one, times}
@@ -26,19 +27,9 @@ none_count (suc t) = ap not (lt-ltb 0 (suc t) (omega arith)) ∙ sym (ne_eqb (su
 pub none_named : (m : ℕ) (xs : List ℕ) → not (stands m xs) ≡ eqb (times m xs) 0
 none_named m xs = ap not (stands_times m xs) ∙ none_count (times m xs)
 
-or_assoc : (a b c : Bool) → ((a || b) || c) ≡ (a || (b || c))
-or_assoc true b c = refl
-or_assoc false b c = refl
-
 stands_append : (m : ℕ) (xs ys : List ℕ) → stands m (xs ++ ys) ≡ (stands m xs || stands m ys)
 stands_append m [] ys = refl
 stands_append m (x ∷ xs) ys = ap (λ b. eqb x m || b) (stands_append m xs ys) ∙ sym (or_assoc (eqb x m) (stands m xs) (stands m ys))
-
-or_comm : (a b : Bool) → (a || b) ≡ (b || a)
-or_comm true true = refl
-or_comm true false = refl
-or_comm false true = refl
-or_comm false false = refl
 
 -- a line below n names m
 pub any_names : (L : ℕ → Line) (m n : ℕ) → any_below (λ k. stands m (named_in (fields (L k)))) n ≡ stands m (named L n)

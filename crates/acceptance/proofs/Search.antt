@@ -3,6 +3,7 @@ use Rattle.std.proofs.Common.{◌≡◌, ℕ, zero, suc, ◌+◌, ◌<◌, ◌�
 use Rattle.std.specs.declared.ops.Range.{Range}
 use Rattle.std.specs.List.{list_any, range_with_len}
 use Rattle.std.proofs.lemmas.Bool.{cases_eq}
+use Rattle.script.proofs.Passes.{or_swap}
 use Rattle.script.specs.Tests.{any_below, lowest, or_here}
 
 lowest_none : (t : ℕ → Bool) (k : ℕ) → ((j : ℕ) → 0 ≤ j → j < k → t j ≡ false) → lowest t k ≡ None
@@ -27,11 +28,6 @@ lowest_of t k (Some i) h = sym (lowest_at t i k h.1 h.2 (lowest_none t i h.3))
 -- what `find` gives over the numbers below k
 pub lowest_by : (t : ℕ → Bool) (s : Range ℕ) (k : ℕ) (r : Option ℕ) → s ≡ record { start = 0; end = k } → Finds t s.start s.end r → r ≡ lowest t k
 lowest_by t s k r e h = lowest_of t k r (subst (λ v. Finds t v.start v.end r) e h)
-
-or_swap : (a b c : Bool) → (a || (b || c)) ≡ (b || (a || c))
-or_swap true true c = refl
-or_swap true false c = refl
-or_swap false b c = refl
 
 any_first : (t : ℕ → Bool) (a n : ℕ) → (t a || any_below (λ j. t (a + 1 + j)) n) ≡ any_below (λ j. t (a + j)) (suc n)
 any_first t a zero = let e : a + 0 ≡ a = omega arith in rw e refl

@@ -22,7 +22,7 @@ pub(crate) struct LineField {
     pub line: LineNumber,
 }
 
-// The fields of one line that name others, in their order.
+// The fields of one line that name others, in their order: three at most, so that variants serve where a list would want memory.
 #[derive(Clone, Copy)]
 pub(crate) enum LineFields {
     Zero,
@@ -69,10 +69,12 @@ impl Class {
     }
 }
 
-fn of(wanted: Class, line: LineNumber) -> LineField
-    ensures { field_meant result ≡ (class_meant (Some wanted), line) }
-{
-    LineField { wanted, line }
+impl LineField {
+    fn new(wanted: Class, line: LineNumber) -> LineField
+        ensures { field_meant result ≡ (class_meant (Some wanted), line) }
+    {
+        LineField { wanted, line }
+    }
 }
 
 // The fields of a line that name others.
@@ -82,40 +84,49 @@ pub(crate) fn fields(line: Line) -> LineFields
     match line {
         Line::Global { .. } | Line::Constant { .. } | Line::Simple { .. } | Line::Truth { .. } =>
             LineFields::Zero,
-        Line::Element { index, .. } => LineFields::One(of(Class::Expression, index)),
-        Line::Negation { condition } => LineFields::One(of(Class::Condition, condition)),
+        Line::Element { index, .. } => LineFields::One(LineField::new(Class::Expression, index)),
+        Line::Negation { condition } => LineFields::One(LineField::new(
+            Class::Condition,
+            condition,
+        )),
         Line::NewSimple { body, .. } | Line::NewArray { body, .. } | Line::Procedure { body, .. } =>
-            LineFields::One(of(Class::Statement, body)),
+            LineFields::One(LineField::new(Class::Statement, body)),
         Line::Operation { left, right, .. } | Line::Comparison { left, right, .. } => {
-            LineFields::Two(of(Class::Expression, left), of(Class::Expression, right))
+            LineFields::Two(
+                LineField::new(Class::Expression, left),
+                LineField::new(Class::Expression, right),
+            )
         }
         Line::Implication {
             premise,
             conclusion,
         } => LineFields::Two(
-            of(Class::Condition, premise),
-            of(Class::Condition, conclusion),
+            LineField::new(Class::Condition, premise),
+            LineField::new(Class::Condition, conclusion),
         ),
         Line::Assignment { variable, value } => LineFields::Two(
-            of(Class::Place, variable),
-            of(Class::Expression, value),
+            LineField::new(Class::Place, variable),
+            LineField::new(Class::Expression, value),
         ),
         Line::Sequence { first, second } => LineFields::Two(
-            of(Class::Statement, first),
-            of(Class::Statement, second),
+            LineField::new(Class::Statement, first),
+            LineField::new(Class::Statement, second),
         ),
         Line::Call {
             value,
             variable,
             ..
-        } => LineFields::Two(of(Class::Expression, value), of(Class::Place, variable)),
+        } => LineFields::Two(
+            LineField::new(Class::Expression, value),
+            LineField::new(Class::Place, variable),
+        ),
         Line::System { declarations, body } => LineFields::Two(
-            of(Class::Declarations, declarations),
-            of(Class::Statement, body),
+            LineField::new(Class::Declarations, declarations),
+            LineField::new(Class::Statement, body),
         ),
         Line::Join { first, second } => LineFields::Two(
-            of(Class::Declarations, first),
-            of(Class::Declarations, second),
+            LineField::new(Class::Declarations, first),
+            LineField::new(Class::Declarations, second),
         ),
         Line::Choice {
             condition,
@@ -123,9 +134,9 @@ pub(crate) fn fields(line: Line) -> LineFields
             otherwise,
         } => {
             LineFields::Three(
-                of(Class::Condition, condition),
-                of(Class::Expression, chosen),
-                of(Class::Expression, otherwise),
+                LineField::new(Class::Condition, condition),
+                LineField::new(Class::Expression, chosen),
+                LineField::new(Class::Expression, otherwise),
             )
         }
         Line::Branch {
@@ -134,9 +145,9 @@ pub(crate) fn fields(line: Line) -> LineFields
             otherwise,
         } => {
             LineFields::Three(
-                of(Class::Condition, condition),
-                of(Class::Statement, chosen),
-                of(Class::Statement, otherwise),
+                LineField::new(Class::Condition, condition),
+                LineField::new(Class::Statement, chosen),
+                LineField::new(Class::Statement, otherwise),
             )
         }
     }

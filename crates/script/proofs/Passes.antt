@@ -1,6 +1,7 @@
 -- What a program's passes over the lines need of the tests.
 use Rattle.std.proofs.Common.{◌≡◌, ℕ, suc, ◌+◌, ◌<◌, Bool, true, false, ◌||◌, eqb, ltb, leb, List, [], ◌∷◌, length, ℤ, sym, refl, ap, ◌∙◌, ap₂, arith}
 use Rattle.std.proofs.lemmas.Bool.{and_left, and_right, lt-leb, ne_eqb, or_from}
+use Rattle.std.proofs.Math.Bool.{or_assoc}
 use Rattle.lines.specs.declared.records.Line.{Line}
 use Rattle.script.specs.Tree.{line}
 use Rattle.script.specs.Apart.{Scope, past_globals}
@@ -80,15 +81,10 @@ declares_procedure Q (opens_system a) x = listed (Q a) x
 declares_procedure Q (opens_body q y z) x = false
 declares_procedure Q (joins a b) x = false
 
-or_assoc : (a b c : Bool) → ((a || b) || c) ≡ (a || (b || c))
-or_assoc true b c = refl
-or_assoc false b c = refl
-
-or_swap : (a b c : Bool) → (a || (b || c)) ≡ (b || (a || c))
+pub or_swap : (a b c : Bool) → (a || (b || c)) ≡ (b || (a || c))
 or_swap true true c = refl
 or_swap true false c = refl
-or_swap false true c = refl
-or_swap false false c = refl
+or_swap false b c = refl
 
 listed_simples : (rs : List (ℕ × ℕ)) (s : Scope) → (with_listed rs s).simples ≡ s.simples
 listed_simples [] s = refl

@@ -1,25 +1,18 @@
 // What is proved of scripts and refusals, each law on a function's contract.
-ghost use Rattle.script.specs.Laws.{AcceptedExactly};
-ghost use Rattle.script.specs.Laws.{OneVerdict};
+ghost use Rattle.script.specs.Laws.{AcceptedExactly, OneVerdict};
 ghost use Rattle.script.specs.RefusalCases.{RefusalCases};
 
 // A sheet is refused for nothing exactly if it is a script, and for a number and a line exactly if its faults say so.
-pub fn accepted_exactly() -> u8
+pub fn accepted_exactly()
     ensures { AcceptedExactly }
-{
-    0
-}
+{}
 
 // Every sheet is a script or is refused, for one number and one line.
-pub fn one_verdict() -> u8
+pub fn one_verdict()
     ensures { OneVerdict }
-{
-    0
-}
+{}
 
 // Worked examples: a script, and what sheets that differ from it are refused for.
-pub fn refusal_cases() -> u8
+pub fn refusal_cases()
     ensures { RefusalCases }
-{
-    0
-}
+{}
