@@ -4,13 +4,13 @@ ghost use Rattle.script.specs.Tree.{line};
 ghost use Rattle.script.specs.Around.{naming};
 ghost use Rattle.script.specs.Apart.{globals_of, heads};
 ghost use Rattle.script.specs.Tests.{among, lowest, not_declared, scope_by_lines, under};
-ghost use Rattle.acceptance.specs.Scopes.{any_global, declares, known, listed, suits, wants_array, wants_procedure, wants_simple};
+ghost use Rattle.acceptance.specs.Scopes.{any_global, declares, known, listed, suits};
 
 use crate::sheet::Sheet;
 use lines::records::{Line, LineNumber, Name};
 
 // The sort of name that is looked up.
-#[derive(Clone, Copy)]
+#[derive(Clone, Copy, PartialEq, Eq)]
 pub(crate) enum Sought {
     Simple,
     Array,
@@ -18,32 +18,14 @@ pub(crate) enum Sought {
 }
 
 impl Sought {
-    fn is_simple(self) -> bool
-        ensures { result ≡ wants_simple self }
-    {
-        matches!(self, Sought::Simple)
-    }
-
-    fn is_array(self) -> bool
-        ensures { result ≡ wants_array self }
-    {
-        matches!(self, Sought::Array)
-    }
-
-    fn is_procedure(self) -> bool
-        ensures { result ≡ wants_procedure self }
-    {
-        matches!(self, Sought::Procedure)
-    }
-
     // Whether a global of that length is of this sort.
     fn suits(self, length: u16) -> bool
         ensures { result ≡ suits self length }
     {
-        if length == 0 {
-            self.is_simple()
+        self == if length == 0 {
+            Sought::Simple
         } else {
-            self.is_array()
+            Sought::Array
         }
     }
 }
@@ -61,14 +43,14 @@ impl<'a> Sheet<'a> {
         ensures { result ≡ declares sought name (under (line self.now)) (naming (line self.now p)) }
     {
         match self.line(p) {
-            Line::NewSimple { name: declared, .. } => sought.is_simple() && declared == name,
-            Line::NewArray { name: declared, .. } => sought.is_array() && declared == name,
+            Line::NewSimple { name: declared, .. } => sought == Sought::Simple && declared == name,
+            Line::NewArray { name: declared, .. } => sought == Sought::Array && declared == name,
             Line::Procedure {
                 value_formal,
                 variable_formal,
                 ..
-            } => sought.is_simple() && (variable_formal == name || value_formal == name),
-            Line::System { declarations, .. } => sought.is_procedure()
+            } => sought == Sought::Simple && (variable_formal == name || value_formal == name),
+            Line::System { declarations, .. } => sought == Sought::Procedure
                 && self.has_procedure(declarations, name),
             _ => false,
         }
