@@ -22,7 +22,8 @@ pub(crate) struct LineField {
     pub line: LineNumber,
 }
 
-// The fields of one line that name others, in their order: three at most, so that variants serve where a list would want memory.
+// The fields of one line that name others, in their order: three at most. Variants, and no array of options: a test of the fields
+// that are there would have to pass over the empty places, by a closure in a closure or by a loop with its own invariant.
 #[derive(Clone, Copy)]
 pub(crate) enum LineFields {
     Zero,
