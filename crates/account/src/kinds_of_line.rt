@@ -1,31 +1,10 @@
 // How many lines of each kind a sheet has.
 ghost use Rattle.std.specs.Prelude.{◌≡◌};
-ghost use Rattle.account.specs.Characters.{operator_character, relation_character, character_of, count_of};
+ghost use Rattle.account.specs.Characters.{character_of, count_of};
 
 use lines::records::{Line, Record};
-use lines::sorts::{Operator, Relation};
 
-fn operator_character(operator: Operator) -> u8
-    ensures { result ≡ operator_character operator }
-{
-    match operator {
-        Operator::Plus => b'+',
-        Operator::Minus => b'-',
-        Operator::Times => b'*',
-        Operator::Over => b'/',
-    }
-}
-
-fn relation_character(relation: Relation) -> u8
-    ensures { result ≡ relation_character relation }
-{
-    match relation {
-        Relation::Equal => b'=',
-        Relation::Less => b'<',
-    }
-}
-
-// The character that stands for the kind of a line.
+// The character that stands for the kind of a line. A line says more than its kind, so this is no `From`.
 pub fn kind_character(line: Line) -> u8
     ensures { result ≡ character_of line }
 {
@@ -34,8 +13,8 @@ pub fn kind_character(line: Line) -> u8
         Line::Constant { .. } => b'k',
         Line::Simple { .. } => b'x',
         Line::Element { .. } => b'a',
-        Line::Operation { operator, .. } => operator_character(operator),
-        Line::Comparison { relation, .. } => relation_character(relation),
+        Line::Operation { operator, .. } => operator.into(),
+        Line::Comparison { relation, .. } => relation.into(),
         Line::Choice { .. } => b'?',
         Line::Truth { value } => if value { b't' } else { b'f' },
         Line::Negation { .. } => b'!',
@@ -56,11 +35,8 @@ pub fn kind_character(line: Line) -> u8
 pub fn count_kind(records: &[Record], character: u8) -> usize
     ensures { result ≡ count_of character records.now }
 {
-    let mut count = 0;
-    for record in records {
-        if kind_character(record.line) == character {
-            count += 1;
-        }
-    }
-    count
+    records
+        .iter()
+        .filter(|record| kind_character(record.line) == character)
+        .count()
 }

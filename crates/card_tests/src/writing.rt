@@ -12,7 +12,7 @@ fn lines_are_written_at_the_front(rt: HostRuntime) {
         third: 10,
     };
     let mut buffer = [b'.'; 20];
-    assert!(rt; matches!(line.write(&mut buffer), Ok(18)));
+    assert_eq!(rt; line.write(&mut buffer), Ok(18));
     assert_eq!(rt; buffer, *b"x,4294967295,0,10\n..");
 }
 
@@ -25,14 +25,27 @@ fn short_buffers_stay_as_they_are(rt: HostRuntime) -> Result<(), Fail> {
         third: 4,
     };
     let mut short = [b'.'; 7];
-    match line.write(&mut short) {
-        Ok(_) => return Err(Fail::new("too short for the line")),
-        Err(refusal) => assert_eq!(rt; refusal.number(), 20),
-    }
+    let Err(refusal) = line.write(&mut short) else {
+        return Err(Fail::new("too short for the line"));
+    };
+    assert_eq!(rt; u8::from(refusal), 20);
     assert_eq!(rt; short, [b'.'; 7]);
     let mut just = [b'.'; 8];
-    assert!(rt; matches!(line.write(&mut just), Ok(8)));
+    assert_eq!(rt; line.write(&mut just), Ok(8));
     assert_eq!(rt; just, *b"f,0,0,4\n");
+    Ok(())
+}
+
+#[test]
+fn lines_print_as_they_are_written(rt: HostRuntime) -> Result<(), Fail> {
+    let line = WrittenLine {
+        letter: b'x',
+        first: 4294967295,
+        second: 0,
+        third: 10,
+    };
+    let printed = format!(in rt.alloc(); "{line}")?;
+    assert_eq!(rt; printed.as_str(), "x,4294967295,0,10\n");
     Ok(())
 }
 
