@@ -7,15 +7,16 @@ mod tests;
 
 use play::{play_both, play_bytes, play_words};
 use std::io;
-use stores::{Access, Reply};
+use stores::{Access, NoSuchCell, Reply};
 
-fn show(rt: &impl Print, at: usize, reply: Reply) -> io::Result<()> {
-    match reply {
-        Reply::Size(size) => println!(rt; "{at}: size {size}"),
-        Reply::Word(word) => println!(rt; "{at}: word {word}"),
-        Reply::Done => println!(rt; "{at}: done"),
-        Reply::Refused => println!(rt; "{at}: refused"),
+fn show(rt: &impl Print, replies: &[Result<Reply, NoSuchCell>]) -> io::Result<()> {
+    for (at, reply) in replies.iter().enumerate() {
+        match reply {
+            Ok(reply) => println!(rt; "{at}: {reply}")?,
+            Err(refusal) => println!(rt; "{at}: {refusal}")?,
+        }
     }
+    Ok(())
 }
 
 fn main(rt: HostRuntime) -> io::Result<()> {
@@ -30,18 +31,14 @@ fn main(rt: HostRuntime) -> io::Result<()> {
         Access::Load(3),
     ];
     let mut cells = [0, 16909060, 0];
-    let mut replies = [Reply::Refused; 9];
+    let mut replies = [Err(NoSuchCell); 9];
     let count = play_words(&mut cells, &requests, &mut replies);
     println!(rt; "table: {count} replies, cells {cells:?}")?;
-    for (at, reply) in replies.iter().enumerate() {
-        show(&rt, at, *reply)?;
-    }
+    show(&rt, &replies)?;
     let mut bytes = [0, 0, 0, 0, 4, 3, 2, 1, 0, 0, 0, 0, 77, 78];
     let count = play_bytes(&mut bytes, &requests, &mut replies);
     println!(rt; "image: {count} replies, bytes {bytes:?}")?;
-    for (at, reply) in replies.iter().enumerate() {
-        show(&rt, at, *reply)?;
-    }
+    show(&rt, &replies)?;
     let same = play_both(&mut cells, &mut bytes, &requests);
     println!(rt; "same replies: {same}")
 }

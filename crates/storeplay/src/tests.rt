@@ -1,18 +1,17 @@
 use crate::play::{play_bytes, play_words};
 use std::process::Abort;
 use std::test::Fail;
-use stores::{Access, ByteImage, PutAnswer, Reply, Store, WordTable};
+use stores::{Access, ByteImage, NoSuchCell, Reply, Store, WordTable};
 
 // A store of this size: both ends hold what is put there, and the first place past the end is refused.
 fn check_store<S: Store>(rt: &impl Abort, store: &mut S, size: usize) {
     assert_eq!(rt; store.size(), size);
-    assert_eq!(rt; store.put(size, 5), PutAnswer::Refused);
+    assert_eq!(rt; store.put(size, 5), Err(NoSuchCell));
     assert_eq!(rt; store.load(size), None);
-    if size > 0 {
-        let last = size - 1;
-        assert_eq!(rt; store.put(0, 4294967295), PutAnswer::Done);
+    if let Some(last) = size.checked_sub(1) {
+        assert_eq!(rt; store.put(0, 4294967295), Ok(()));
         assert_eq!(rt; store.load(0), Some(4294967295));
-        assert_eq!(rt; store.put(last, 16909060), PutAnswer::Done);
+        assert_eq!(rt; store.put(last, 16909060), Ok(()));
         assert_eq!(rt; store.load(last), Some(16909060));
     }
 }
@@ -28,10 +27,7 @@ fn tables(rt: HostRuntime) -> Result<(), Fail> {
     ] {
         let mut words = vec![in rt.alloc(); 7; cells]?;
         check_store(&rt, &mut WordTable::new(words.as_mut_slice()), size);
-        assert_eq!(rt;
-            words.get(65536).copied(),
-            if cells > 65536 { Some(7) } else { None }
-        );
+        assert_eq!(rt; words.get(65536).copied(), (cells > 65536).then_some(7));
     }
     Ok(())
 }
@@ -71,18 +67,18 @@ fn layout(rt: HostRuntime) {
         Access::Put(2, 1),
         Access::Size,
     ];
-    let mut replies = [Reply::Done; 5];
+    let mut replies = [Ok(Reply::Done); 5];
     let mut bytes = [1, 0, 0, 0, 0, 1, 0, 0, 7];
     assert_eq!(rt; play_bytes(&mut bytes, &requests, &mut replies), 4);
     assert_eq!(rt; bytes, [1, 0, 0, 0, 4, 3, 2, 1, 7]);
     assert_eq!(rt;
         replies,
         [
-            Reply::Word(256),
-            Reply::Done,
-            Reply::Refused,
-            Reply::Size(2),
-            Reply::Done,
+            Ok(Reply::Word(256)),
+            Ok(Reply::Done),
+            Err(NoSuchCell),
+            Ok(Reply::Size(2)),
+            Ok(Reply::Done),
         ]
     );
     let mut cells = [1, 256];
@@ -91,11 +87,11 @@ fn layout(rt: HostRuntime) {
     assert_eq!(rt;
         replies,
         [
-            Reply::Word(256),
-            Reply::Done,
-            Reply::Refused,
-            Reply::Size(2),
-            Reply::Done,
+            Ok(Reply::Word(256)),
+            Ok(Reply::Done),
+            Err(NoSuchCell),
+            Ok(Reply::Size(2)),
+            Ok(Reply::Done),
         ]
     );
 }

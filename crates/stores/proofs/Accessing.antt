@@ -1,19 +1,11 @@
 -- Replies to requests, one more at a time.
-use Rattle.std.proofs.Common.{◌≡◌, ℕ, suc, ◌+◌, ◌<◌, ◌≤◌, Bool, ◌&&◌, List, [], ◌∷◌, ◌++◌, length, get_or, take, drop, set, Decides, sym, refl, ap, ◌∙◌, append_assoc, arith, length-take}
-use Rattle.std.specs.List.{slice_get}
+use Rattle.std.proofs.Common.{◌≡◌, ℕ, suc, ◌+◌, ◌<◌, Bool, ◌&&◌, List, [], ◌∷◌, ◌++◌, length, get_or, take, drop, set, Decides, Result, sym, refl, ap, ◌∙◌, append_assoc, arith, length-take}
 use Rattle.std.proofs.lemmas.List.{take_more, drop_more, set_at, same_from_push}
-use Rattle.std.proofs.lemmas.Option.{slice_get-get_or, slice_get_past}
 use Rattle.std.proofs.lemmas.Bool.Decides.{Decides-and}
 use Rattle.stores.specs.declared.access.Access.{Access}
 use Rattle.stores.specs.declared.access.Reply.{Reply}
-use Rattle.stores.specs.declared.access.Reply.TheVariants.{Done, Refused}
-use Rattle.stores.specs.Accesses.{put_reply, reply, after, replies, after_all}
-
-pub put_done : (words : List ℕ) (at : ℕ) → at < length words → Done ≡ put_reply (slice_get words at)
-put_done words at h = sym (ap put_reply (slice_get-get_or words at 0 h))
-
-pub put_refused : (words : List ℕ) (at : ℕ) → length words ≤ at → Refused ≡ put_reply (slice_get words at)
-put_refused words at h = sym (ap put_reply (slice_get_past words at h))
+use Rattle.stores.specs.declared.store.NoSuchCell.{NoSuchCell}
+use Rattle.stores.specs.Accesses.{reply, after, replies, after_all}
 
 after_all-++ : (words : List ℕ) (qs rs : List Access) → after_all words (qs ++ rs) ≡ after_all (after_all words qs) rs
 after_all-++ words [] rs = refl
@@ -63,7 +55,7 @@ next_written front old i x e h =
 
 -- the reply to one request more, written behind those before it
 pub written_more :
-    (words before : List ℕ) (qs : List Access) (old new : List Reply) (i : ℕ) (d : Access) (r : Reply)
+    (words before : List ℕ) (qs : List Access) (old new : List (Result Reply NoSuchCell)) (i : ℕ) (d : Access) (r : Result Reply NoSuchCell)
     → i < length qs
     → i < length old
     → before ≡ after_all words (take i qs)
@@ -80,7 +72,7 @@ written_more words before qs old new i d r h k e n a =
 
 -- two lists of replies are the same with one more exactly where they were the same and the two more are
 pub same_more :
-    (ours theirs ahead behind : List ℕ) (qs : List Access) (i : ℕ) (d : Access) (one other : Reply) (same matched : Bool)
+    (ours theirs ahead behind : List ℕ) (qs : List Access) (i : ℕ) (d : Access) (one other : Result Reply NoSuchCell) (same matched : Bool)
     → i < length qs
     → ahead ≡ after_all ours (take i qs)
     → behind ≡ after_all theirs (take i qs)

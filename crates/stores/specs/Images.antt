@@ -1,7 +1,7 @@
 -- An image: a lent slice of bytes as a store, four bytes a cell, the lowest byte of the word first.
-use Rattle.std.specs.Prelude.{ℕ, ◌+◌, ◌*◌, ◌/◌, ◌%◌, ◌^◌, List, [], ◌∷◌, length, take, drop, slice_index, slice_set}
-use Rattle.stores.specs.declared.store.PutAnswer.{PutAnswer}
-use Rattle.stores.specs.declared.store.PutAnswer.TheVariants.{Done, Refused}
+use Rattle.std.specs.Prelude.{ℕ, ◌+◌, ◌*◌, ◌/◌, ◌%◌, ◌^◌, List, [], ◌∷◌, length, take, drop, slice_index, slice_set, Ok, Err, Result}
+use Rattle.stores.specs.declared.store.NoSuchCell.{NoSuchCell}
+use Rattle.stores.specs.Lent.{Lent}
 
 -- The word that four bytes mean, given from the lowest to the highest.
 abbrev pub word_of : ℕ → ℕ → ℕ → ℕ → ℕ
@@ -27,6 +27,10 @@ image_words bytes = take 65536 (words_of bytes)
 abbrev pub image_rest : List ℕ → List ℕ
 image_rest bytes = drop (4 * length (image_words bytes)) bytes
 
+-- What a put keeps, of a slice that lies in a loan.
+abbrev pub image_lent : ℕ → List ℕ → Lent
+image_lent loan bytes = record { loan = loan; rest = image_rest bytes }
+
 -- The word that the four bytes of a cell mean.
 abbrev pub word_at : List ℕ → ℕ → ℕ
 word_at bytes at =
@@ -38,9 +42,9 @@ with_word bytes at word =
     slice_set (slice_set (slice_set (slice_set bytes (4 * at) (byte_of 0 word)) (4 * at + 1) (byte_of 1 word)) (4 * at + 2) (byte_of 2 word)) (4 * at + 3) (byte_of 3 word)
 
 -- The bytes after a put, by its answer: one that is refused changes no byte.
-abbrev pub bytes_after : List ℕ → ℕ → ℕ → PutAnswer → List ℕ
-bytes_after bytes at word Done = with_word bytes at word
-bytes_after bytes at word Refused = bytes
+abbrev pub bytes_after : List ℕ → ℕ → ℕ → Result (Unit {0}) NoSuchCell → List ℕ
+bytes_after bytes at word (Ok _) = with_word bytes at word
+bytes_after bytes at word (Err _) = bytes
 
 -- The bytes that words are written as.
 abbrev pub bytes_of : List ℕ → List ℕ

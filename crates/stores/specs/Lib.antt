@@ -1,4 +1,6 @@
 pub mod Answers
+pub mod Lent
 pub mod Tables
 pub mod Images
 pub mod Accesses
+pub mod Texts

@@ -8,5 +8,5 @@ mod word_table;
 
 pub use access::{Access, Reply, answer, same_answers, serve};
 pub use byte_image::ByteImage;
-pub use store::{MOST_CELLS, PutAnswer, Store};
+pub use store::{MOST_CELLS, NoSuchCell, Store};
 pub use word_table::WordTable;

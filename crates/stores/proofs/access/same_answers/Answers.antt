@@ -1,4 +1,4 @@
-use Rattle.std.proofs.Common.{◌≡◌, List, Decides, ap, ◌∙◌, subst, arith}
+use Rattle.std.proofs.Common.{◌≡◌, List, Decides, ap, ◌∙◌, subst, arith, rules}
 use Rattle.std.proofs.lemmas.List.{take_all}
 use Rattle.stores.specs.declared.access.Access.{Access}
 use Rattle.stores.specs.declared.access.Access.TheVariants.{Size}
@@ -13,13 +13,11 @@ loop-request-preserved g c =
     let i = c.loop-request.request-index in
     let e = c.answer-from_first.ensures in
     let f = c.answer-from_second.ensures in (
-      same_more _ _ _ _ requests i Size _ _ _ _ (omega arith) inv.1 inv.4 e.reply f.reply inv.0 c.is_same-same.ensures,
+      same_more _ _ _ _ requests i Size _ _ _ _ (omega arith) inv.1 inv.3 e.reply f.reply inv.0 (search rules),
       stands_more _ _ _ requests i Size (omega arith) inv.1 e.words,
-      e.loan ∙ inv.2,
-      e.rest ∙ inv.3,
-      stands_more _ _ _ requests i Size (omega arith) inv.4 f.words,
-      f.loan ∙ inv.5,
-      f.rest ∙ inv.6,
+      e.lent ∙ inv.2,
+      stands_more _ _ _ requests i Size (omega arith) inv.3 f.words,
+      f.lent ∙ inv.4,
     )
 
 pub returns : goal.returns
@@ -34,9 +32,7 @@ returns g c =
       alike = λ e. told.1 (ap (λ ws. replies ws c.args.requests.now) e);
       told = told;
       first_words = inv.1 ∙ ap (after_all ours) all;
-      first_loan = inv.2;
-      first_rest = inv.3;
-      second_words = inv.4 ∙ ap (after_all theirs) all;
-      second_loan = inv.5;
-      second_rest = inv.6;
+      first_lent = inv.2;
+      second_words = inv.3 ∙ ap (after_all theirs) all;
+      second_lent = inv.4;
     }

@@ -9,8 +9,6 @@ invariant-loop-request g l =
     let theirs = g.B.Store.words l.initial.second in
     Decides l.same (replies ours done ≡ replies theirs done)
     × (g.A.Store.words l.first ≡ after_all ours done)
-    × (g.A.Store.loan l.first ≡ g.A.Store.loan l.initial.first)
-    × (g.A.Store.rest l.first ≡ g.A.Store.rest l.initial.first)
+    × (g.A.Store.lent l.first ≡ g.A.Store.lent l.initial.first)
     × (g.B.Store.words l.second ≡ after_all theirs done)
-    × (g.B.Store.loan l.second ≡ g.B.Store.loan l.initial.second)
-    × (g.B.Store.rest l.second ≡ g.B.Store.rest l.initial.second)
+    × (g.B.Store.lent l.second ≡ g.B.Store.lent l.initial.second)

@@ -9,6 +9,5 @@ loop-i-preserved g c =
     let most = c.min-count.ensures in (
       written_more _ _ c.args.requests.now c.args.replies.now _ c.loop-i.i Size _ (omega arith) (omega arith) c.loop-i.invariant.1 c.loop-i.invariant.0 e.reply,
       stands_more _ _ _ c.args.requests.now c.loop-i.i Size (omega arith) c.loop-i.invariant.1 e.words,
-      e.loan ∙ c.loop-i.invariant.2,
-      e.rest ∙ c.loop-i.invariant.3,
+      e.lent ∙ c.loop-i.invariant.2,
     )

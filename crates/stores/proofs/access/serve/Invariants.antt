@@ -6,5 +6,4 @@ abbrev pub invariant-loop-i : goal.invariant-loop-i
 invariant-loop-i g l =
     (l.replies ≡ replies (g.S.Store.words l.initial.store) (take l.i l.requests) ++ drop l.i l.initial.replies)
     × (g.S.Store.words l.store ≡ after_all (g.S.Store.words l.initial.store) (take l.i l.requests))
-    × (g.S.Store.loan l.store ≡ g.S.Store.loan l.initial.store)
-    × (g.S.Store.rest l.store ≡ g.S.Store.rest l.initial.store)
+    × (g.S.Store.lent l.store ≡ g.S.Store.lent l.initial.store)
