@@ -31,8 +31,8 @@ fn outside<K: NumberKind>() -> OutOfKind
     ensures { (result.smallest ≡ K.NumberKind.kind.least) × (result.largest ≡ K.NumberKind.kind.most) }
 {
     OutOfKind {
-        smallest: K::smallest_constant(),
-        largest: K::largest_constant(),
+        smallest: K::SMALLEST,
+        largest: K::LARGEST,
     }
 }
 
