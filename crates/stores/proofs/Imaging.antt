@@ -1,5 +1,5 @@
 -- The words of a list of bytes: how many there are, what one is, and what a write of one does.
-use Rattle.std.proofs.Common.{◌≡◌, ℕ, zero, suc, ◌+◌, ◌*◌, ◌/◌, ◌%◌, ◌^◌, ◌<◌, ◌≤◌, List, [], ◌∷◌, ◌++◌, map, w32, length, get_or, take, drop, set, Some, None, Option, sym, refl, ap, ◌∙◌, arith, length-set, length-take}
+use Rattle.std.proofs.Common.{◌≡◌, ℕ, zero, suc, ◌+◌, ◌*◌, ◌/◌, ◌%◌, ◌^◌, ◌<◌, ◌≤◌, List, [], ◌∷◌, ◌++◌, map, w32, length, get_or, take, drop, set, Some, None, Option, sym, refl, ap, ◌∙◌, arith, length-set}
 use lib.Seq.{take-set-lt}
 use borrow.Rule.Slice.PartMut.{put_mid}
 use Rattle.std.specs.List.{slice_get}
@@ -7,8 +7,8 @@ use Rattle.std.specs.Option.{option_map, IfSome}
 use Rattle.std.specs.Int.{from_le_bytes, to_le_bytes}
 use Rattle.std.specs.Simd.{first_chunks}
 use Rattle.std.proofs.lemmas.Option.{slice_get-map, slice_get_within, get_or_from_slice_get}
-use Rattle.std.proofs.lemmas.List.{drop-set-lt, get_or-take, take-map, take_min}
-use Rattle.stores.proofs.Capped.{within}
+use Rattle.std.proofs.lemmas.List.{drop-set-lt, get_or-take, take-map}
+use Rattle.stores.proofs.Capped.{within, used}
 use Rattle.stores.specs.Images.{word_of, byte_of, words_of, image_words, image_rest, word_at, with_word}
 
 -- four bytes a word, and at most three left over
@@ -54,11 +54,9 @@ pub chunk_load :
     → k ≡ length bytes / 4
     → option_map (from_le_bytes w32) (slice_get (take size (first_chunks 4 k bytes)) i) ≡ slice_get (image_words bytes) i
 chunk_load bytes size k i e f =
-    let words = words_of bytes in
     let chunks = first_chunks 4 k bytes in
-    let t : take size words ≡ image_words bytes = ap (λ n. take n words) (e ∙ length-take 65536 words) ∙ take_min 65536 words in
     sym (slice_get-map (from_le_bytes w32) (take size chunks) i)
-    ∙ ap (λ l. slice_get l i) (sym (take-map (from_le_bytes w32) size chunks) ∙ ap (take size) (words_chunks k bytes (f ∙ quarter bytes)) ∙ t)
+    ∙ ap (λ l. slice_get l i) (sym (take-map (from_le_bytes w32) size chunks) ∙ ap (take size) (words_chunks k bytes (f ∙ quarter bytes)) ∙ used 65536 size (words_of bytes) e)
 
 words_get : (bytes : List ℕ) (i : ℕ) → i < length (words_of bytes) → get_or (words_of bytes) i 0 ≡ word_at bytes i
 words_get [] i h = absurd (omega arith)

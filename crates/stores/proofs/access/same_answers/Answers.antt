@@ -1,8 +1,5 @@
-use Rattle.std.proofs.Common.{◌≡◌, List, Decides, ap, ◌∙◌, subst, arith, rules}
-use Rattle.std.proofs.lemmas.List.{take_all}
-use Rattle.stores.specs.declared.access.Access.{Access}
+use Rattle.std.proofs.Common.{◌∙◌, arith, rules}
 use Rattle.stores.specs.declared.access.Access.TheVariants.{Size}
-use Rattle.stores.specs.Accesses.{replies, after_all}
 use Rattle.stores.proofs.Accessing.{stands_more, same_more}
 use Rattle.stores.proofs.access.same_answers.Goals as goal
 
@@ -19,20 +16,3 @@ loop-request-preserved g c =
       stands_more _ _ _ requests i Size (omega arith) inv.3 f.words,
       f.lent ∙ inv.4,
     )
-
-pub returns : goal.returns
-returns g c =
-    let inv = c.loop-request.invariant in
-    let ours = g.A.Store.words c.args.first.now in
-    let theirs = g.B.Store.words c.args.second.now in
-    let all = take_all c.loop-request.request-index c.args.requests.now c.loop-request-test.false in
-    let P : List Access → Type 0 = λ qs. Decides c.loop-request.same (replies ours qs ≡ replies theirs qs) in
-    let told = subst P all inv.0 in
-    record {
-      alike = λ e. told.1 (ap (λ ws. replies ws c.args.requests.now) e);
-      told = told;
-      first_words = inv.1 ∙ ap (after_all ours) all;
-      first_lent = inv.2;
-      second_words = inv.3 ∙ ap (after_all theirs) all;
-      second_lent = inv.4;
-    }

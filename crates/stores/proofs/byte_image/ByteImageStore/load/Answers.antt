@@ -17,19 +17,14 @@ slice_bounds-get-end c =
     let q = quarter bytes in
     omega arith
 
-loaded : (c : goal.After-map) → c.map.result ≡ slice_get (image_words c.args.self.now.bytes.now) c.args.at
-loaded c =
+pub returns : goal.returns
+returns c =
     let bytes = c.args.self.now.bytes.now in
     let chunks = first_chunks 4 (length bytes / 4) bytes in
     let size = c.size.result in
     let lookup : IsItemAt (take size chunks) c.args.at c.get.result = subst (λ (l : List (List ℕ)). IsItemAt (take size l) c.args.at c.get.result) c.as_chunks.ensures.front c.get.ensures.lookup in
     let copied : c.copied.result ≡ slice_get (take size chunks) c.args.at = c.copied.ensures ∙ copied_item (take size chunks) c.args.at c.get.result lookup in
     let mapped : c.map.result ≡ option_map (from_le_bytes w32) c.copied.result = search rules in
-    mapped ∙ ap (option_map (from_le_bytes w32)) copied ∙ chunk_load bytes size (length bytes / 4) c.args.at c.size.ensures.size refl
-
-pub returns : goal.returns
-returns c =
-    record {
-      word = loaded c;
-      bytes = load_bytes c.args.self.now.bytes.now c.args.at c.map.result (loaded c);
-    }
+    let word : c.map.result ≡ slice_get (image_words bytes) c.args.at =
+    mapped ∙ ap (option_map (from_le_bytes w32)) copied ∙ chunk_load bytes size (length bytes / 4) c.args.at c.size.ensures.size refl in
+    record { word = word; bytes = load_bytes bytes c.args.at c.map.result word }
