@@ -47,7 +47,7 @@ impl fmt::Display for Cause {
 
 impl Error for Cause {}
 
-// A cause, and the line at fault: 0 where none is.
+// A cause, and the line at fault. The line is 0 where none is at fault, since that is the number that the programs print.
 #[derive(Clone, Copy, PartialEq, Eq, Debug)]
 pub struct Refusal<C> {
     pub cause: C,

@@ -44,6 +44,7 @@ fn fill(text: &[u8], records: &mut [Record]) -> Result<usize, Refusal<Cause>>
         if rest.is_empty() {
             return Ok(index);
         }
+        // A `match`: with `map_err` and `?` the proof of the refusal's line does not close.
         match next_line(rest, (index + 1) as u16) {
             Ok((line, after)) => {
                 *record = Record {
