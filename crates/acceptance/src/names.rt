@@ -83,6 +83,7 @@ impl<'a> Sheet<'a> {
         ensures { under_some (line self.now) result ≡ fellows_by_lines (line self.now) (length self.now) n }
     {
         let mut at = n;
+        // a line of a sheet out of form may be its own user: as many steps as there are lines are enough
         for _step in 0..self.len() {
             at = self.user(at)?;
             match self.line(at) {

@@ -79,6 +79,7 @@ impl<'a> Sheet<'a> {
         ensures { result ≡ among (known sought (scope_by_lines (line self.now) (length self.now) (globals_of self.now).scope n)) name }
     {
         let mut at = n;
+        // a line of a sheet out of form may be its own user: as many steps as there are lines are enough
         for _step in 0..self.len() {
             let Some(user) = self.user(at) else {
                 return self.is_global(sought, name);

@@ -10,7 +10,7 @@ pub type LineNumber = u16;
 // What a line says. Fields that hold a line number are called by what that line is to be.
 #[derive(Clone, Copy, PartialEq, Eq, Debug)]
 pub enum Line {
-    // the length is 0 for a simple variable
+    // the length is 0 for a simple variable, as on the card: what a script's globals are, and their cells, is defined by that number
     Global {
         name: Name,
         length: u16,
