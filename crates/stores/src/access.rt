@@ -65,9 +65,9 @@ pub fn serve<S: Store>(
     ensures lent { S.Store.lent store.new ≡ S.Store.lent store.old }
 {
     let count = requests.len().min(replies.len());
-    // By index: after an `iter_mut` a proof no longer knows what the slice holds.
-    for i in 0..count {
-        replies[i] = answer(store, requests[i]);
+    // The replies by their places: after a `zip` of `iter_mut` a proof no longer knows what the slice holds.
+    for (i, request) in requests[..count].iter().enumerate() {
+        replies[i] = answer(store, *request);
     }
     count
 }
