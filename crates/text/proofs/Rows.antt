@@ -1,16 +1,8 @@
 -- The lines of a text, from where its first byte 10 is.
-use Rattle.std.proofs.Common.{◌≡◌, ℕ, zero, suc, ◌+◌, ◌-◌, ◌<◌, false, eqb, List, [], ◌∷◌, ◌++◌, length, take, drop, Some, None, sym, refl, ap, ◌∙◌, arith, rules}
+use Rattle.std.proofs.Common.{◌≡◌, ℕ, zero, suc, ◌+◌, ◌-◌, ◌<◌, false, eqb, List, [], ◌∷◌, ◌++◌, length, Some, None, refl, ap, ◌∙◌, arith, rules}
 use Rattle.std.specs.List.{slice_get}
-use Rattle.std.proofs.lemmas.List.{take-append-drop, drop_more, length-take, get_or-take}
-use Rattle.text.specs.Cutting.{Absent, FirstAt, CutAt}
+use Rattle.text.specs.Cutting.{Absent, CutAt}
 use Rattle.text.specs.Lines.{closed, unclosed, rows, if_closed}
-
--- a text, cut where a byte first stands
-pub cut_first : (byte : ℕ) (xs : List ℕ) (i : ℕ) → FirstAt byte xs i → CutAt byte xs (take i xs) (drop (i + 1) xs)
-cut_first byte xs i f = record {
-  whole = sym (take-append-drop i xs) ∙ ap (λ ys. take i xs ++ ys) (drop_more xs i 0 f.within ∙ ap (λ b. b ∷ drop (i + 1) xs) f.here);
-  lacks = λ k l e. let n : k < i = omega (arith, length-take i xs) in f.before k n (sym (get_or-take i xs k 0 n) ∙ e);
-}
 
 rows_closed : (xs ys : List ℕ) → Absent 10 xs → rows (xs ++ 10 ∷ ys) ≡ closed xs ∷ rows ys
 rows_closed [] ys h = refl

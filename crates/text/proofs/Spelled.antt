@@ -1,5 +1,5 @@
 -- What the spelling of a number is like, and what `parse` reads of it.
-use Rattle.std.proofs.Common.{◌≡◌, ℕ, zero, suc, ◌-◌, ◌^◌, ◌<◌, ◌≤◌, Bool, true, false, cond, ◌&&◌, eqb, leb, List, [], ◌∷◌, length, get_or, ℤ, pos, negsuc, Some, None, Ok, Err, IsUtf8, decimal, Option, Result, sym, refl, ap, ◌∙◌, subst, arith, rules}
+use Rattle.std.proofs.Common.{◌≡◌, ℕ, zero, suc, ◌^◌, ◌<◌, ◌≤◌, Bool, true, false, cond, ◌&&◌, eqb, leb, List, [], ◌∷◌, length, get_or, ℤ, pos, negsuc, Some, None, Ok, Err, IsUtf8, decimal, Option, Result, sym, refl, ap, ◌∙◌, subst, arith, rules}
 use Rattle.std.specs.Str.Parse.{AllDigits, digits_value, ParsesUnsigned}
 use Rattle.std.specs.Str.{all_ascii_digits}
 use Rattle.std.specs.Result.{result_ok}
@@ -117,10 +117,6 @@ minus_read [] l e = absurd (omega arith)
 minus_read (c ∷ cs) l e =
     let r : cs ≡ between 1 (length (c ∷ cs)) (c ∷ cs) = cc (first_rest (c ∷ cs) 0 l) in
     rw e (ap (λ xs. negative (number 2147483648 xs)) r)
-
-pub negative_some : (n : ℕ) (z : ℤ) → (n ≡ 0 → ⊥) → z ≡ negsuc (n - 1) → Some z ≡ negative (Some n)
-negative_some zero z h e = absurd (h refl)
-negative_some (suc n) z h e = let s : suc n - 1 ≡ n = omega arith in ap Some (e ∙ ap negsuc s)
 
 pub integer_says : (bs : List ℕ) (r : Option ℤ) → r ≡ integer bs → SaysInteger bs r
 integer_says bs r e = subst (SaysInteger bs) (sym e) (says_integer bs)

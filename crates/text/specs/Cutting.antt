@@ -1,15 +1,9 @@
 -- Where a byte stands in a text.
-use Rattle.std.specs.Prelude.{◌≡◌, ℕ, ◌<◌, List, ◌∷◌, ◌++◌, length, ◌≢◌, slice_index, slice_index_or}
+use Rattle.std.specs.Prelude.{◌≡◌, ℕ, ◌<◌, List, ◌∷◌, ◌++◌, length, ◌≢◌, slice_index}
 
 -- the byte stands nowhere in the text
 abbrev pub Absent : ℕ → List ℕ → Type 0
 Absent byte text = (k : ℕ) → k < length text → slice_index text k ≢ byte
-
--- the byte stands at this place, and at none before it
-pub record FirstAt (byte : ℕ) (text : List ℕ) (at : ℕ) : Type 0 where
-  pub within : at < length text
-  pub here : slice_index_or text at 0 ≡ byte
-  pub before : (k : ℕ) → k < at → slice_index text k ≢ byte
 
 -- the text is `front`, which lacks the byte, then the byte, then `back`
 pub record CutAt (byte : ℕ) (text front back : List ℕ) : Type 0 where
