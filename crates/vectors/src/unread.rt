@@ -1,4 +1,6 @@
 // That a text spells nothing which is read here.
+ghost use Rattle.std.specs.Prelude.{Some, codes};
+
 use std::error::Error;
 use std::fmt;
 
@@ -6,6 +8,8 @@ use std::fmt;
 pub struct Unread;
 
 impl fmt::Display for Unread {
+    ghost output = { λ _. Some (codes "not read") };
+
     fn fmt<W: fmt::Write>(&self, f: &mut fmt::Formatter<W>) -> fmt::Result {
         f.write_str("not read")
     }
