@@ -1,5 +1,5 @@
 -- What is around a line, one user at a time; and the procedures that declarations have.
-use Rattle.std.proofs.Common.{◌≡◌, ℕ, zero, suc, ◌+◌, ◌-◌, ◌<◌, ◌≤◌, Bool, true, false, ◌&&◌, ◌||◌, eqb, ltb, List, [], ◌∷◌, ◌++◌, length, get_or, sym, refl, ap, ◌∙◌, ap₂, inl, inr, add-one, arith}
+use Rattle.std.proofs.Common.{◌≡◌, ℕ, zero, suc, ◌+◌, ◌-◌, ◌<◌, Bool, true, false, ◌&&◌, ◌||◌, eqb, ltb, List, [], ◌∷◌, ◌++◌, length, get_or, sym, refl, ap, ◌∙◌, ap₂, inl, inr, add-one, arith}
 use Rattle.std.proofs.lemmas.Bool.{both_ways, cases_lt, le-ltb, lt-ltb}
 use Rattle.std.proofs.Math.Bool.{or-false, or_assoc}
 use Rattle.lines.specs.declared.records.Line.{Line}
@@ -94,9 +94,6 @@ module _ (ls : List Line) where
 
   pub fellows_top : (i n : ℕ) → i < last → 0 ≡ user (line ls) (suc last) n → fellows_from (last - i) n ≡ []
   fellows_top i n q e = fellows_turn i n 0 nought q e refl
-
-  pub fellows_none : (i n : ℕ) → last ≤ i → fellows_from (last - i) n ≡ []
-  fellows_none i n q = let s : last - i ≡ 0 = omega arith in ap (λ f. fellows_from f n) s
 
 -- of no other sort of line
 pub fellows_rest : (Q : ℕ → List (ℕ × ℕ)) (y : List (ℕ × ℕ)) (x : Line) → ((a b : ℕ) → x ≡ Line.System a b → ⊥) → ((a b : ℕ) → x ≡ Line.Join a b → ⊥)

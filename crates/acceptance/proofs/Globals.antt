@@ -1,9 +1,8 @@
 -- The globals that a sheet begins with, line by line.
-use Rattle.std.proofs.Common.{◌≡◌, ℕ, suc, ◌+◌, ◌<◌, ◌≤◌, true, false, List, ◌∷◌, length, get_or, drop, Some, None, Option, MatchOption, refl, sym, ap, ◌∙◌, inl, inr, add-one}
+use Rattle.std.proofs.Common.{◌≡◌, ℕ, suc, ◌<◌, true, false, List, ◌∷◌, length, Some, None, Option, MatchOption, refl, sym, ap, ◌∙◌, inl, inr, add-one}
 use Rattle.std.specs.List.{AllWithin, HoldsAt}
 use Rattle.std.specs.Option.{is_some, unwrap_or}
 use Rattle.std.proofs.lemmas.Iterator.{index_from_first}
-use Rattle.std.proofs.lemmas.List.{at_drop_all, at_drop_more}
 use Rattle.std.proofs.lemmas.Bool.{both_ways}
 use Rattle.lines.specs.declared.records.Line.{Line}
 use Rattle.lines.specs.declared.records.Record.{Record}
@@ -32,20 +31,6 @@ Is_global r = is_nothing (class_of r.line) ≡ true
 
 abbrev pub Is_other : Record → Type 0
 Is_other r = is_nothing (class_of r.line) ≡ false
-
--- the same of the records from place i on
-module _ (rs : List Record) (i : ℕ) where
-  abbrev pub globals_left : ℕ → ℕ
-  globals_left k = length (heads (lines_of (drop k rs)))
-
-  pub left_further : (d : Record) → i < length rs → is_nothing (class_of (get_or rs i d).line) ≡ true → globals_left i ≡ suc (globals_left (i + 1))
-  left_further d q h = at_drop_more (λ us. length (heads (lines_of us))) rs i d q ∙ globals_further (get_or rs i d).line (lines_of (drop (i + 1) rs)) h
-
-  pub left_end : (d : Record) → i < length rs → is_nothing (class_of (get_or rs i d).line) ≡ false → globals_left i ≡ 0
-  left_end d q h = at_drop_more (λ us. length (heads (lines_of us))) rs i d q ∙ globals_end (get_or rs i d).line (lines_of (drop (i + 1) rs)) h
-
-  pub left_none : length rs ≤ i → globals_left i ≡ 0
-  left_none q = at_drop_all (λ us. length (heads (lines_of us))) rs i q
 
 -- how many globals there are, where r is the place of the first record that is none
 pub count_of_globals : (rs : List Record) (r : Option ℕ)

@@ -1,19 +1,15 @@
 -- Names among what is around a line, and among the globals.
-use Rattle.std.proofs.Common.{◌≡◌, ℕ, zero, suc, ◌+◌, ◌-◌, ◌<◌, ◌≤◌, Bool, false, ◌&&◌, ◌||◌, eqb, List, [], ◌∷◌, length, get_or, drop, sym, refl, ap, ◌∙◌, inl, inr, arith}
-use Rattle.std.proofs.lemmas.List.{at_drop_more}
+use Rattle.std.proofs.Common.{◌≡◌, ℕ, zero, suc, ◌+◌, ◌-◌, ◌<◌, ◌≤◌, Bool, false, ◌&&◌, ◌||◌, eqb, List, [], ◌∷◌, length, sym, refl, ap, ◌∙◌, arith}
 use Rattle.std.proofs.Math.Bool.{or-false, or_assoc}
 use Rattle.lines.specs.declared.records.Line.{Line}
-use Rattle.lines.specs.declared.records.Record.{Record}
 use Rattle.script.specs.Tree.{line}
-use Rattle.script.specs.Apart.{Globals, Scope, as_global, global_of, globals_from, globals_of, head_then, heads, no_globals, own}
+use Rattle.script.specs.Apart.{Globals, Scope, global_of, globals_from, globals_of, heads, no_globals, own}
 use Rattle.script.specs.Around.{Naming, around, handed, inside, inside_by, joins, naming, opens_array, opens_body, opens_simple, opens_system, silent, user, uses_array, uses_procedure, uses_simple, with_listed}
 use Rattle.script.specs.Tests.{among, under}
-use Rattle.script.proofs.Globals.{global_or}
 use Rattle.script.proofs.Passes.{or_swap}
 use Rattle.acceptance.specs.declared.scopes.Sought.{Sought}
 use Rattle.acceptance.specs.declared.scopes.Sought.TheVariants.{Simple, Array, Procedure}
 use Rattle.acceptance.specs.Scopes.{any_global, declares, known, listed, suits, wants_procedure}
-use Rattle.acceptance.specs.Sheet.{lines_of}
 
 or_shift : (b c d : Bool) → (c || (b || d)) ≡ ((b || c) || d)
 or_shift b c d = or_swap c b d ∙ sym (or_assoc b c d)
@@ -76,21 +72,6 @@ module _ (k : Sought) (a : ℕ) where
 
   pub globals_are : (ls : List Line) → among (known k (globals_of ls).scope) a ≡ any_global k a (heads ls)
   globals_are ls = globals_known 1 (heads ls) no_globals ∙ (ap (λ b. any_global k a (heads ls) || b) none_known ∙ or-false (any_global k a (heads ls)))
-
-  module _ (rs : List Record) (i : ℕ) where
-    abbrev pub globals_from_place : ℕ → Bool
-    globals_from_place j = any_global k a (heads (lines_of (drop j rs)))
-
-    pub global_turn : (d : Record) (x b : ℕ) → i < length rs → (get_or rs i d).line ≡ Line.Global x b
-        → globals_from_place i ≡ ((suits k b && eqb x a) || globals_from_place (i + 1))
-    global_turn d x b q e = at_drop_more (λ us. any_global k a (heads (lines_of us))) rs i d q
-        ∙ ap (λ l. any_global k a (head_then (as_global l) (heads (lines_of (drop (i + 1) rs))))) e
-
-    pub global_stop : (d : Record) → i < length rs → ((x b : ℕ) → (get_or rs i d).line ≡ Line.Global x b → ⊥) → globals_from_place i ≡ false
-    global_stop d q h = at_drop_more (λ us. any_global k a (heads (lines_of us))) rs i d q ∙ elim (global_or (get_or rs i d).line) [
-      | inl w ↦ ap (λ o. any_global k a (head_then o (heads (lines_of (drop (i + 1) rs))))) w.0
-      | inr w ↦ absurd (h w.0 w.1 w.2)
-    ]
 
   module _ (ls : List Line) where
     abbrev last : ℕ

@@ -1,4 +1,3 @@
-pub mod Lines
 pub mod Search
 pub mod Optional
 pub mod Naming
