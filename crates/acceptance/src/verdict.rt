@@ -60,12 +60,21 @@ pub fn accept<K: NumberKind>(records: &[Record]) -> Result<(), Refusal<SheetCaus
     ensures right { Judged K.kind.least K.kind.most (lines_of records.now) result }
     ensures refusal { told result ≡ refusal K.kind.least K.kind.most (lines_of records.now) }
 {
-    let sheet = Sheet::new(records);
-    pass(SheetCause::OutOfForm, sheet.lowest_out_of_form())?;
-    pass(SheetCause::NameAgain, sheet.lowest_name_again())?;
-    pass(SheetCause::Undeclared, sheet.lowest_undeclared())?;
-    pass(SheetCause::TooDeep, sheet.lowest_too_deep())?;
-    pass(SheetCause::OutOfKind, sheet.lowest_out_of_kind::<K>())
+    Sheet::new(records).judge::<K>()
+}
+
+impl<'a> Sheet<'a> {
+    // The checks, each for the lowest line with its fault, in the order of the refusals.
+    fn judge<K: NumberKind>(&self) -> Result<(), Refusal<SheetCause>>
+        ensures right { Judged K.kind.least K.kind.most self.now result }
+        ensures refusal { told result ≡ refusal K.kind.least K.kind.most self.now }
+    {
+        pass(SheetCause::OutOfForm, self.lowest_out_of_form())?;
+        pass(SheetCause::NameAgain, self.lowest_name_again())?;
+        pass(SheetCause::Undeclared, self.lowest_undeclared())?;
+        pass(SheetCause::TooDeep, self.lowest_too_deep())?;
+        pass(SheetCause::OutOfKind, self.lowest_out_of_kind::<K>())
+    }
 }
 
 // Lets a sheet pass in which no line is at fault.
