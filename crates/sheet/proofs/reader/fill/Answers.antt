@@ -1,16 +1,11 @@
 use Rattle.std.proofs.Common.{◌≡◌, ◌+◌, None, Ok, Err, [], ◌∷◌, ◌++◌, length, drop, sym, refl, ap, ◌∙◌, subst, arith, rules}
-use Rattle.std.proofs.lemmas.List.{set-append_left, take-append-drop, length-take-le}
+use Rattle.std.proofs.lemmas.List.{set-append_left, length-take-le}
 use Rattle.lines.specs.declared.records.Line.{Line}
 use Rattle.sheet.specs.Reading.{unresolved}
 use Rattle.lines.specs.declared.refusals.Cause.TheVariants.{Room}
 use Rattle.text.specs.Lines.{rows}
-use Rattle.sheet.proofs.Fills.{ReadSoFar, started, stopped, one_more, rows_some, rows_none, lines_full, lines_read, lines_refused, all_taken, unwritten}
+use Rattle.sheet.proofs.Fills.{ReadSoFar, stopped, one_more, rows_some, rows_none, lines_full, lines_read, lines_refused, all_taken, unwritten}
 use Rattle.sheet.proofs.reader.fill.Goals as goal
-
-pub loop-index-init : goal.loop-index-init
-loop-index-init c =
-    let old = c.args.records.now in
-    ([], subst (λ now. ReadSoFar (length old) 0 c.args.text.now c.args.text.now now old []) (sym (take-append-drop c.min-room.result old)) (started c.args.text.now old))
 
 pub returns-then-is_empty : goal.returns-then-is_empty
 returns-then-is_empty c =
