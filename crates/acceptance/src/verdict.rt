@@ -15,11 +15,11 @@ use std::fmt;
 // Why a whole sheet is refused.
 #[derive(Clone, Copy, PartialEq, Eq, Debug)]
 pub enum SheetCause {
-    OutOfForm,
-    NameAgain,
-    Undeclared,
-    TooDeep,
-    OutOfKind,
+    OutOfForm = 6,
+    NameAgain = 8,
+    Undeclared = 7,
+    TooDeep = 9,
+    OutOfKind = 10,
 }
 
 // The number of a refusal for that cause.
@@ -27,28 +27,30 @@ impl From<SheetCause> for u8 {
     ghost from_gives = { λ cause n. n ≡ number_of (reason_of cause) };
 
     fn from(cause: SheetCause) -> u8 {
-        match cause {
-            SheetCause::OutOfForm => 6,
-            SheetCause::NameAgain => 8,
-            SheetCause::Undeclared => 7,
-            SheetCause::TooDeep => 9,
-            SheetCause::OutOfKind => 10,
-        }
+        cause as u8
     }
 }
 
-// What it means, in plain words.
-impl fmt::Display for SheetCause {
-    ghost output = { λ cause. Some (meaning_of cause) };
-
-    fn fmt<W: fmt::Write>(&self, f: &mut fmt::Formatter<W>) -> fmt::Result {
-        f.write_str(match self {
+impl SheetCause {
+    // What it means, in plain words.
+    pub fn meaning(self) -> &'static str
+        ensures { result.now ≡ meaning_of self }
+    {
+        match self {
             SheetCause::OutOfForm => "the lines do not make one script",
             SheetCause::NameAgain => "a name is declared twice",
             SheetCause::Undeclared => "a name is not declared",
             SheetCause::TooDeep => "nested deeper than 64",
             SheetCause::OutOfKind => "a constant outside the number kind",
-        })
+        }
+    }
+}
+
+impl fmt::Display for SheetCause {
+    ghost output = { λ cause. Some (meaning_of cause) };
+
+    fn fmt<W: fmt::Write>(&self, f: &mut fmt::Formatter<W>) -> fmt::Result {
+        f.write_str(self.meaning())
     }
 }
 

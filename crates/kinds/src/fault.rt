@@ -7,8 +7,8 @@ use std::fmt;
 
 #[derive(Clone, Copy, PartialEq, Eq, Debug)]
 pub enum ArithmeticFault {
-    OutOfRange,
-    ZeroDivisor,
+    OutOfRange = 21,
+    ZeroDivisor = 22,
 }
 
 // The number by which the fault is told.
@@ -16,10 +16,7 @@ impl From<ArithmeticFault> for u8 {
     ghost from_gives = { λ fault n. n ≡ numbered fault };
 
     fn from(fault: ArithmeticFault) -> u8 {
-        match fault {
-            ArithmeticFault::OutOfRange => 21,
-            ArithmeticFault::ZeroDivisor => 22,
-        }
+        fault as u8
     }
 }
 

@@ -8,11 +8,11 @@ use std::fmt;
 
 #[derive(Clone, Copy, PartialEq, Eq, Debug)]
 pub enum Cause {
-    TextSize,
-    Form,
-    Field,
-    Kind,
-    Room,
+    TextSize = 1,
+    Form = 2,
+    Field = 3,
+    Kind = 4,
+    Room = 5,
 }
 
 // The number of a refusal for that cause.
@@ -20,28 +20,30 @@ impl From<Cause> for u8 {
     ghost from_gives = { λ cause n. n ≡ number_of cause };
 
     fn from(cause: Cause) -> u8 {
-        match cause {
-            Cause::TextSize => 1,
-            Cause::Form => 2,
-            Cause::Field => 3,
-            Cause::Kind => 4,
-            Cause::Room => 5,
-        }
+        cause as u8
     }
 }
 
-// What it means, in plain words.
-impl fmt::Display for Cause {
-    ghost output = { λ cause. Some (meaning_of cause) };
-
-    fn fmt<W: fmt::Write>(&self, f: &mut fmt::Formatter<W>) -> fmt::Result {
-        f.write_str(match self {
+impl Cause {
+    // What it means, in plain words.
+    pub fn meaning(self) -> &'static str
+        ensures { result.now ≡ meaning_of self }
+    {
+        match self {
             Cause::TextSize => "the sheet has no byte, or more than 65536",
             Cause::Form => "the line does not end, or has not just six fields",
             Cause::Field => "a field is not a number of its range",
             Cause::Kind => "the kind is not one known character",
             Cause::Room => "the line is past 2048, or no record is left for it",
-        })
+        }
+    }
+}
+
+impl fmt::Display for Cause {
+    ghost output = { λ cause. Some (meaning_of cause) };
+
+    fn fmt<W: fmt::Write>(&self, f: &mut fmt::Formatter<W>) -> fmt::Result {
+        f.write_str(self.meaning())
     }
 }
 
@@ -52,6 +54,19 @@ impl Error for Cause {}
 pub struct Refusal<C> {
     pub cause: C,
     pub line: usize,
+}
+
+impl<C: Into<u8>> Refusal<C> {
+    // The refusal with the number of its cause in the cause's place.
+    pub fn numbered(self) -> Refusal<u8>
+        ensures number { C.converts self.cause result.cause }
+        ensures line { result.line ≡ self.line }
+    {
+        Refusal {
+            cause: self.cause.into(),
+            line: self.line,
+        }
+    }
 }
 
 // Its number, its line and what it means. A bound tells of the number only that `into` may give it, so the text is no `output`, which would be a function of the refusal.

@@ -25,7 +25,8 @@ impl<const LOW: u16, const HIGH: u16> FieldRange for Within<LOW, HIGH> {
     ghost value = { within LOW HIGH };
 
     fn read(field: &[u8]) -> Option<u16> {
-        number_within(field, LOW, HIGH)
+        let n = read_number(field, HIGH as u64)? as u16;
+        if LOW <= n { Some(n) } else { None }
     }
 }
 
@@ -38,7 +39,7 @@ impl FieldRange for AName {
     ghost value = { name };
 
     fn read(field: &[u8]) -> Option<u8> {
-        Some(number_within(field, 1, 255)? as u8)
+        Some(Within::<1, 255>::read(field)? as u8)
     }
 }
 
@@ -68,15 +69,6 @@ pub(crate) type ArrayLength = Within<1, 256>;
 
 // An unused field is 0.
 pub(crate) type Unused = Within<0, 0>;
-
-// The number from `low` to `high` that a field spells.
-fn number_within(field: &[u8], low: u16, high: u16) -> Option<u16>
-    ensures value { result ≡ within low high field.now }
-    ensures bound { IfSome result (λ n. n ≤ high) }
-{
-    let n = read_number(field, high as u64)? as u16;
-    if low <= n { Some(n) } else { None }
-}
 
 // What the four fields of a line hold.
 pub(crate) fn four<A: FieldRange, B: FieldRange, C: FieldRange, D: FieldRange>(

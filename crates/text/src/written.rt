@@ -12,7 +12,7 @@ use std::fmt;
 // Why a line is not written.
 #[derive(Clone, Copy, PartialEq, Eq, Debug)]
 pub enum WriteRefusal {
-    BufferTooShort,
+    BufferTooShort = 20,
 }
 
 // The number of a refusal.
@@ -20,9 +20,7 @@ impl From<WriteRefusal> for u8 {
     ghost from_gives = { λ refusal n. n ≡ refusal_number refusal };
 
     fn from(refusal: WriteRefusal) -> u8 {
-        match refusal {
-            WriteRefusal::BufferTooShort => 20,
-        }
+        refusal as u8
     }
 }
 
