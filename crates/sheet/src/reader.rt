@@ -1,5 +1,5 @@
 // The reader: from the text of a sheet to its records.
-ghost use Rattle.std.specs.Prelude.{◌≡◌, ℕ, ◌<◌, ◌≤◌, length, IfOk, MatchResult, Result};
+ghost use Rattle.std.specs.Prelude.{◌≡◌, ℕ, ◌<◌, ◌≤◌, length, IfErr, IfOk, MatchResult, Result};
 ghost use Rattle.lines.specs.declared.refusals.Cause.{Cause};
 ghost use Rattle.lines.specs.declared.refusals.Refusal.{Refusal};
 ghost use Rattle.text.specs.Lines.{rows};
@@ -19,6 +19,7 @@ pub const MOST_LINES: usize = 2048;
 pub fn read_lines(text: &[u8], records: &mut [Record]) -> Result<usize, Refusal<Cause>>
     ensures answer { result ≡ answer (outcome (length records.old) text.now) }
     ensures bound { IfOk result (λ count. count ≤ length records.old) }
+    ensures line { IfErr result (λ refusal. refusal.line ≤ 2049) }
     ensures right { Verdict (length records.old) text.now result }
     ensures only { (s : Result ℕ (Refusal Cause)) → Verdict (length records.old) text.now s → s ≡ result }
     ensures left { records.new ≡ filled (outcome (length records.old) text.now).lines records.old }
@@ -36,6 +37,7 @@ pub fn read_lines(text: &[u8], records: &mut [Record]) -> Result<usize, Refusal<
 fn fill(text: &[u8], records: &mut [Record]) -> Result<usize, Refusal<Cause>>
     ensures answer { result ≡ answer (from_line (length records.old) 1 (rows text.now)) }
     ensures bound { IfOk result (λ count. count ≤ length records.old) }
+    ensures line { IfErr result (λ refusal. refusal.line ≤ 2049) }
     ensures left { records.new ≡ filled (from_line (length records.old) 1 (rows text.now)).lines records.old }
 {
     let room = records.len().min(MOST_LINES);

@@ -13,7 +13,8 @@ pub fn line_text<'a>(text: &'a [u8], number: usize) -> Option<&'a [u8]>
     line_after(text, number.checked_sub(1)?)
 }
 
-// The line after so many others, where it is closed. A loop: `split` would give the end that no byte 10 closes as a line too, and the library states no list of what `split_inclusive` gives.
+// The line after so many others, where it is closed. A loop: `split` would give the end that no byte 10 closes as a line
+// too, and the library does not state what `split_inclusive` gives.
 fn line_after<'a>(text: &'a [u8], others: usize) -> Option<&'a [u8]>
     ensures { option_map (λ x. x.now) result ≡ if_closed (slice_get (rows text.now) others) }
 {
