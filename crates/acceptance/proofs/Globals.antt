@@ -26,17 +26,17 @@ globals_end l ls h = elim (global_or l) [
   | inr g ↦ absurd (both_ways (is_nothing (class_of l)) h (ap (λ k. is_nothing (class_of k)) g.2))
 ]
 
-abbrev pub Is_global : Record → Type 0
-Is_global r = is_nothing (class_of r.line) ≡ true
+abbrev pub IsGlobal : Record → Type 0
+IsGlobal r = is_nothing (class_of r.line) ≡ true
 
-abbrev pub Is_other : Record → Type 0
-Is_other r = is_nothing (class_of r.line) ≡ false
+abbrev pub IsOther : Record → Type 0
+IsOther r = is_nothing (class_of r.line) ≡ false
 
 -- how many globals there are, where r is the place of the first record that is none
 pub count_of_globals : (rs : List Record) (r : Option ℕ)
-    → MatchOption r (AllWithin Is_global rs 0 (length rs)) (λ i. (i < length rs) × HoldsAt Is_other rs i × AllWithin Is_global rs 0 i)
+    → MatchOption r (AllWithin IsGlobal rs 0 (length rs)) (λ i. (i < length rs) × HoldsAt IsOther rs i × AllWithin IsGlobal rs 0 i)
     → length (heads (lines_of rs)) ≡ unwrap_or r (length rs)
-count_of_globals rs r h = index_from_first (λ us. length (heads (lines_of us))) Is_other Is_global refl
+count_of_globals rs r h = index_from_first (λ us. length (heads (lines_of us))) IsOther IsGlobal refl
     (λ x xs o. globals_end x.line (lines_of xs) o)
     (λ x xs g. globals_further x.line (lines_of xs) g ∙ sym (add-one (length (heads (lines_of xs)))))
     rs r h

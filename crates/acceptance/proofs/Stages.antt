@@ -5,10 +5,10 @@ use Rattle.lines.specs.declared.records.Line.{Line}
 use Rattle.script.specs.Tree.{line, part}
 use Rattle.script.specs.Apart.{past_globals}
 use Rattle.script.specs.Depth.{deepest_allowed, depth}
-use Rattle.script.specs.Causes.{name_again, number_of, out_of_form, undeclared}
+use Rattle.script.specs.Causes.{Reason, name_again, number_of, out_of_form, out_of_kind, undeclared}
 use Rattle.lines.specs.declared.refusals.Refusal.{Refusal}
 use Rattle.acceptance.specs.declared.verdict.SheetCause.{SheetCause}
-use Rattle.acceptance.specs.Verdict.{reason_of, told, Judged, found, by_kind, by_form}
+use Rattle.acceptance.specs.Verdict.{reason_of, told, Judged}
 use Rattle.script.proofs.Verdict.{accepted_exactly}
 use Rattle.script.specs.Tests.{finds_fault, lowest, or_here, or_later, over_deep, refusal}
 use Rattle.script.proofs.Accept.{faultless_form}
@@ -17,6 +17,26 @@ use Rattle.script.proofs.Finds.{finds_form}
 use Rattle.script.proofs.Form.{InForm}
 use Rattle.script.proofs.Globals.{front_of, back_of}
 use Rattle.script.proofs.Lowest.{NoneBelow}
+
+-- The stages of the check, the last one first.
+module _ (low high : ℤ) (ls : List Line) where
+  abbrev pub found : Reason → Option ℕ
+  found r = lowest (finds_fault low high ls r) (suc (length ls))
+
+  abbrev pub by_kind : Option (ℕ × ℕ)
+  by_kind = or_later 10 (found out_of_kind) None
+
+  abbrev pub by_depth : Option (ℕ × ℕ)
+  by_depth = or_later 9 (lowest (λ n. ltb deepest_allowed (depth (part (line ls) n))) (suc (length ls))) by_kind
+
+  abbrev pub by_uses : Option (ℕ × ℕ)
+  by_uses = or_later 7 (found undeclared) by_depth
+
+  abbrev pub by_names : Option (ℕ × ℕ)
+  by_names = or_later 8 (found name_again) by_uses
+
+  abbrev pub by_form : Option (ℕ × ℕ)
+  by_form = or_later 6 (found out_of_form) by_names
 
 lowest_same : (t u : ℕ → Bool) (k : ℕ) → ((n : ℕ) → n < k → t n ≡ u n) → lowest t k ≡ lowest u k
 lowest_same t u zero h = refl

@@ -1,4 +1,4 @@
--- Whether a line is named and by which, as the program asks it. Nothing here needs to be believed: the contracts of src/form cite the tests of the crate script.
+-- Whether a line is named and by which, as the program asks it. Nothing here needs to be believed: the tests of the crate script are what the checks promise.
 use Rattle.std.specs.Prelude.{ℕ, Bool, false, ◌||◌, List, [], ◌∷◌, Some, None, Option, ◌==◌}
 use Rattle.lines.specs.declared.records.Line.{Line}
 use Rattle.script.specs.Tests.{under}

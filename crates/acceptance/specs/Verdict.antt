@@ -1,11 +1,8 @@
 -- What the check of a whole sheet answers.
-use Rattle.std.specs.Prelude.{ℕ, suc, List, length, ℤ, Some, None, Ok, Err, codes, Option, Result, nat_lt}
+use Rattle.std.specs.Prelude.{ℕ, List, ℤ, Some, None, Ok, Err, codes, Option, Result}
 use Rattle.lines.specs.declared.records.Line.{Line}
-use Rattle.script.specs.Tree.{line, part}
-use Rattle.script.specs.Depth.{deepest_allowed, depth}
 use Rattle.script.specs.IsScript.{IsScript}
 use Rattle.script.specs.Causes.{Refused}
-use Rattle.script.specs.Tests.{finds_fault, lowest, or_later}
 use Rattle.acceptance.specs.declared.verdict.SheetCause.{SheetCause}
 use Rattle.acceptance.specs.declared.verdict.SheetCause.TheVariants.{OutOfForm, NameAgain, Undeclared, TooDeep, OutOfKind}
 use Rattle.lines.specs.declared.refusals.Refusal.{Refusal}
@@ -36,23 +33,3 @@ told (Err f) = Some (number_of (reason_of f.cause), f.line)
 abbrev pub Judged : {A : Type 0} → ℤ → ℤ → List Line → Result A (Refusal SheetCause) → Type 0
 Judged low high ls (Ok a) = IsScript low high ls
 Judged low high ls (Err f) = Refused low high ls (number_of (reason_of f.cause)) f.line × (IsScript low high ls → ⊥)
-
--- The stages of the check, the last one first: stepping stones to `refusal`, with nothing to believe.
-module _ (low high : ℤ) (ls : List Line) where
-  abbrev pub found : Reason → Option ℕ
-  found r = lowest (finds_fault low high ls r) (suc (length ls))
-
-  abbrev pub by_kind : Option (ℕ × ℕ)
-  by_kind = or_later 10 (found out_of_kind) None
-
-  abbrev pub by_depth : Option (ℕ × ℕ)
-  by_depth = or_later 9 (lowest (λ n. nat_lt deepest_allowed (depth (part (line ls) n))) (suc (length ls))) by_kind
-
-  abbrev pub by_uses : Option (ℕ × ℕ)
-  by_uses = or_later 7 (found undeclared) by_depth
-
-  abbrev pub by_names : Option (ℕ × ℕ)
-  by_names = or_later 8 (found name_again) by_uses
-
-  abbrev pub by_form : Option (ℕ × ℕ)
-  by_form = or_later 6 (found out_of_form) by_names

@@ -6,7 +6,7 @@ ghost use Rattle.acceptance.specs.Classes.{class_meant, field_meant, fields_mean
 use lines::records::{Line, LineNumber};
 
 // What a line is in the text.
-#[derive(Clone, Copy, PartialEq, Eq)]
+#[derive(Clone, Copy, PartialEq, Eq, Debug)]
 pub(crate) enum Class {
     Place,
     Expression,
@@ -16,15 +16,15 @@ pub(crate) enum Class {
 }
 
 // A field that names another line: the class wanted there, and its number.
-#[derive(Clone, Copy)]
+#[derive(Clone, Copy, PartialEq, Eq, Debug)]
 pub(crate) struct LineField {
     pub wanted: Class,
-    pub line: LineNumber,
+    pub line: usize,
 }
 
-// The fields of one line that name others, in their order: three at most. Variants, and no array of options: a test of the fields
-// that are there would have to pass over the empty places, by a closure in a closure or by a loop with its own invariant.
-#[derive(Clone, Copy)]
+// The fields of one line that name others, in their order: three at most. Variants, and no array of options: tried, a test of the
+// fields that are there is a closure in a closure, whose proof does not close. A vector of fixed size would want an empty field.
+#[derive(Clone, Copy, PartialEq, Eq, Debug)]
 pub(crate) enum LineFields {
     Zero,
     One(LineField),
@@ -74,7 +74,10 @@ impl LineField {
     fn new(wanted: Class, line: LineNumber) -> LineField
         ensures { field_meant result ≡ (class_meant (Some wanted), line) }
     {
-        LineField { wanted, line }
+        LineField {
+            wanted,
+            line: line as usize,
+        }
     }
 }
 

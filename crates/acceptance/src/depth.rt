@@ -1,5 +1,5 @@
 // How deep expressions and conditions are nested.
-ghost use Rattle.std.specs.Prelude.{◌≡◌, ◌<◌, ◌≤◌, suc, length, nat_lt, MatchOption};
+ghost use Rattle.std.specs.Prelude.{◌≡◌, suc, length, nat_lt};
 ghost use Rattle.script.specs.Tree.{line, part};
 ghost use Rattle.script.specs.Depth.{deepest_allowed, depth};
 ghost use Rattle.script.specs.Tests.{lowest};
@@ -26,7 +26,8 @@ fn deeper(a: Option<u8>, b: Option<u8>) -> Option<u8>
 }
 
 impl<'a> Sheet<'a> {
-    // The depth of the expression at line m, where line n may name it.
+    // The depth of the expression at line m, where line n may name it. `condition_below` is its twin: functions of a cycle cannot be
+    // handed to one another.
     #[cycle(condition_depth_expression_depth)]
     fn expression_below(&self, n: usize, m: LineNumber) -> Option<u8>
         ensures { result ≡ if_below n m (counted (as_expression_deep (part (line self.now) m))) }

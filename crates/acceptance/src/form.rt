@@ -18,11 +18,9 @@ impl LineFields {
     {
         match self {
             LineFields::Zero => false,
-            LineFields::One(a) => a.line as usize == m,
-            LineFields::Two(a, b) => a.line as usize == m || b.line as usize == m,
-            LineFields::Three(a, b, c) => a.line as usize == m
-                || b.line as usize == m
-                || c.line as usize == m,
+            LineFields::One(a) => a.line == m,
+            LineFields::Two(a, b) => a.line == m || b.line == m,
+            LineFields::Three(a, b, c) => a.line == m || b.line == m || c.line == m,
         }
     }
 }
@@ -32,8 +30,7 @@ impl<'a> Sheet<'a> {
     fn field_fits(&self, n: usize, field: LineField) -> bool
         ensures { result ≡ field_fits (line self.now) n (field_meant field) }
     {
-        let named = field.line as usize;
-        named < n && field.wanted.fits(class_of(self.line(named)))
+        field.line < n && field.wanted.fits(class_of(self.line(field.line)))
     }
 
     // Whether a field of line n does not.
@@ -65,22 +62,22 @@ impl<'a> Sheet<'a> {
     }
 
     // Whether one of some fields of line n names a line that an earlier line or field names.
-    fn name_again(&self, n: usize, fields: LineFields) -> bool
+    fn renames(&self, n: usize, fields: LineFields) -> bool
         ensures { result ≡ stands_again (named (line self.now) n) (named_in (fields_meant fields)) }
     {
         match fields {
             LineFields::Zero => false,
-            LineFields::One(a) => self.is_named_below(n, a.line as usize),
-            LineFields::Two(a, b) => self.is_named_below(n, a.line as usize)
+            LineFields::One(a) => self.is_named_below(n, a.line),
+            LineFields::Two(a, b) => self.is_named_below(n, a.line)
                 || a.line == b.line
-                || self.is_named_below(n, b.line as usize),
+                || self.is_named_below(n, b.line),
             LineFields::Three(a, b, c) => {
-                self.is_named_below(n, a.line as usize)
+                self.is_named_below(n, a.line)
                     || a.line == b.line
-                    || self.is_named_below(n, b.line as usize)
+                    || self.is_named_below(n, b.line)
                     || b.line == c.line
                     || a.line == c.line
-                    || self.is_named_below(n, c.line as usize)
+                    || self.is_named_below(n, c.line)
             }
         }
     }
@@ -89,7 +86,7 @@ impl<'a> Sheet<'a> {
     fn names_again(&self, n: usize) -> bool
         ensures { result ≡ names_again (line self.now) n }
     {
-        self.name_again(n, fields(self.line(n)))
+        self.renames(n, fields(self.line(n)))
     }
 
     // Whether no line names line m.

@@ -1,4 +1,4 @@
-// Names: which are declared twice, and whose a line's part is.
+// Names that are declared twice, and the line that names a line.
 ghost use Rattle.std.specs.Prelude.{◌≡◌, suc, ◌<◌, ◌&&◌, length, nat_lt, IfSome};
 ghost use Rattle.script.specs.Tree.{line};
 ghost use Rattle.script.specs.Apart.{as_global};
@@ -54,6 +54,7 @@ impl<'a> Sheet<'a> {
         ensures user { line_of_user result ≡ user (line self.now) (suc (length self.now)) m }
         ensures counted { IfSome result (λ k. 0 < k) }
     {
+        // a loop: with `rfind` the proof does not close, for want of what a range gives from its back
         for k in self.numbers().rev() {
             if self.names(k, m) {
                 return Some(k);

@@ -10,7 +10,7 @@ use crate::sheet::Sheet;
 use lines::records::{Line, LineNumber, Name};
 
 // The sort of name that is looked up.
-#[derive(Clone, Copy, PartialEq, Eq)]
+#[derive(Clone, Copy, PartialEq, Eq, Debug)]
 pub(crate) enum Sought {
     Simple,
     Array,
@@ -42,16 +42,20 @@ impl<'a> Sheet<'a> {
     fn declares(&self, p: usize, sought: Sought, name: Name) -> bool
         ensures { result ≡ declares sought name (under (line self.now)) (naming (line self.now p)) }
     {
-        match self.line(p) {
-            Line::NewSimple { name: declared, .. } => sought == Sought::Simple && declared == name,
-            Line::NewArray { name: declared, .. } => sought == Sought::Array && declared == name,
-            Line::Procedure {
-                value_formal,
-                variable_formal,
-                ..
-            } => sought == Sought::Simple && (variable_formal == name || value_formal == name),
-            Line::System { declarations, .. } => sought == Sought::Procedure
-                && self.has_procedure(declarations, name),
+        match (self.line(p), sought) {
+            (Line::NewSimple { name: declared, .. }, Sought::Simple) => declared == name,
+            (Line::NewArray { name: declared, .. }, Sought::Array) => declared == name,
+            (
+                Line::Procedure {
+                    value_formal,
+                    variable_formal,
+                    ..
+                },
+                Sought::Simple,
+            ) => variable_formal == name || value_formal == name,
+            (Line::System { declarations, .. }, Sought::Procedure) => {
+                self.has_procedure(declarations, name)
+            }
             _ => false,
         }
     }
@@ -60,6 +64,7 @@ impl<'a> Sheet<'a> {
     fn is_global(&self, sought: Sought, name: Name) -> bool
         ensures { result ≡ any_global sought name (heads self.now) }
     {
+        // a loop: with `map_while` and `any` the proof does not close
         for record in self.records() {
             match record.line {
                 Line::Global {

@@ -41,7 +41,7 @@ impl<'a> Sheet<'a> {
         self.records.len()
     }
 
-    // The numbers of its lines, behind 0, which stands for a sheet with no line.
+    // The numbers of its lines, behind 0: an empty sheet is refused at line 0, by the same tests as the others.
     pub(crate) fn numbers(&self) -> Range<usize>
         ensures { result ≡ record { start = 0; end = suc (length self.now) } }
     {
