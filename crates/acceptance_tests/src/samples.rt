@@ -1,6 +1,6 @@
 // Sheets for the tests.
 
-// The number and the line of a refusal, where there is one.
+// The number and the line of a refusal, where there is one, as the rules of a card give them.
 pub type Told = Option<(u8, usize)>;
 
 // A sheet, the refusal that it gets for whole numbers, and the one that it gets for singles.

@@ -3,6 +3,7 @@ use crate::samples::{SHEETS, Told};
 use acceptance::verdict::accept;
 use kinds::{NumberKind, Single, Whole};
 use lines::records::Record;
+use lines::refusals::Refusal;
 use sheet::reader::read_lines;
 use std::alloc::{AllocError, Global};
 use std::test::Fail;
@@ -14,7 +15,10 @@ fn verdict<K: NumberKind>(text: &str, records: &mut [Record]) -> Result<Told, Fa
     };
     match accept::<K>(&records[0..count]) {
         Ok(()) => Ok(None),
-        Err(refusal) => Ok(Some((refusal.cause.into(), refusal.line))),
+        Err(refusal) => {
+            let Refusal { cause, line } = refusal.numbered();
+            Ok(Some((cause, line)))
+        }
     }
 }
 

@@ -1,31 +1,16 @@
 // Cases as the file spells them.
 ghost use Rattle.std.specs.Prelude.{◌<◌, ◌≤◌, length, IfSome};
+ghost use Rattle.std.specs.Iterator.{at_most};
 
 use lines::refusals::Refusal;
 use std::str::from_utf8;
 use text::cutting::cut;
 
-// What a refusal is told as: its number and its line.
-#[derive(Clone, Copy, PartialEq, Eq)]
-pub struct Told {
-    pub number: u8,
-    pub line: usize,
-}
-
-impl<C: Into<u8>> From<Refusal<C>> for Told {
-    fn from(refusal: Refusal<C>) -> Told {
-        Told {
-            number: refusal.cause.into(),
-            line: refusal.line,
-        }
-    }
-}
-
 // A sheet, and the refusal that it should get, if any.
-#[derive(Clone, Copy)]
+#[derive(Clone, Copy, PartialEq, Eq, Debug)]
 pub struct Case<'a> {
     pub sheet: &'a [u8],
-    pub refusal: Option<Told>,
+    pub refusal: Option<Refusal<u8>>,
 }
 
 // The number after a word, as in `sheet 25`.
@@ -34,19 +19,37 @@ fn count_after(line: &[u8], word: &str) -> Option<u16> {
     number.parse().ok()
 }
 
-// The number and the line of a refusal, as in `r,6,4,0`.
-fn refusal_of(line: &[u8]) -> Option<Told> {
+// A refusal by its number and its line, as in `r,6,4,0`.
+fn refusal_of(line: &[u8]) -> Option<Refusal<u8>> {
     let rest = from_utf8(line).ok()?.strip_prefix("r,")?;
     let (number, rest) = rest.split_once(',')?;
     let (line, _) = rest.split_once(',')?;
-    Some(Told {
-        number: number.parse().ok()?,
+    Some(Refusal {
+        cause: number.parse().ok()?,
         line: line.parse().ok()?,
     })
 }
 
+// The cases of a text, one after the other, and the text that is left.
+#[derive(Drop)]
+pub struct Cases<'a> {
+    pub rest: &'a [u8],
+}
+
+impl<'a> Iterator for Cases<'a> {
+    type Item = Case<'a>;
+
+    ghost remaining = { λ cases. at_most (length cases.rest.now) };
+
+    fn next(&mut self) -> Option<Case<'a>> {
+        let (case, rest) = next_case(self.rest)?;
+        self.rest = rest;
+        Some(case)
+    }
+}
+
 // The next case, and the text after it; nothing where the text has no more.
-pub fn next_case<'a>(text: &'a [u8]) -> Option<(Case<'a>, &'a [u8])>
+fn next_case<'a>(text: &'a [u8]) -> Option<(Case<'a>, &'a [u8])>
     ensures { IfSome result (λ p. length p.1.now < length text.now) }
 {
     let (sheet, rest) = take_sheet(text)?;
@@ -69,7 +72,7 @@ fn take_sheet<'a>(text: &'a [u8]) -> Option<(&'a [u8], &'a [u8])>
 
 // The refusal that the lines after `want N` tell, if any, and the text after them.
 #[tactic(auto, using(crate::proofs::Shorter::shorter))]
-fn take_wanted<'a>(text: &'a [u8]) -> Option<(Option<Told>, &'a [u8])>
+fn take_wanted<'a>(text: &'a [u8]) -> Option<(Option<Refusal<u8>>, &'a [u8])>
     ensures { IfSome result (λ p. length p.1.now ≤ length text.now) }
 {
     let (head, mut rest) = cut(text, b'\n')?;

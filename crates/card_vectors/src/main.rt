@@ -4,9 +4,10 @@
 mod cases;
 
 use acceptance::verdict::accept;
-use cases::{Told, next_case};
+use cases::Cases;
 use kinds::Whole;
 use lines::records::Record;
+use lines::refusals::Refusal;
 use sheet::reader::{MOST_LINES, read_lines};
 use std::fs;
 
@@ -19,7 +20,7 @@ struct Tally {
 }
 
 impl Tally {
-    fn count(&mut self, answer: Option<Told>, wanted: Option<Told>) {
+    fn count(&mut self, answer: Option<Refusal<u8>>, wanted: Option<Refusal<u8>>) {
         let counter = if answer != wanted {
             &mut self.wrong
         } else if answer.is_some() {
@@ -32,12 +33,14 @@ impl Tally {
 }
 
 // The refusal of a sheet, or nothing where it is a script for whole numbers.
-fn refusal(sheet: &[u8], records: &mut [Record]) -> Option<Told> {
+fn refusal(sheet: &[u8], records: &mut [Record]) -> Option<Refusal<u8>> {
     let count = match read_lines(sheet, records) {
         Ok(count) => count,
-        Err(refusal) => return Some(refusal.into()),
+        Err(refusal) => return Some(refusal.numbered()),
     };
-    accept::<Whole>(&records[0..count]).err().map(Told::from)
+    accept::<Whole>(&records[0..count])
+        .err()
+        .map(|refusal| refusal.numbered())
 }
 
 fn main(rt: HostRuntime) -> anyhow::Result<()> {
@@ -48,15 +51,16 @@ fn main(rt: HostRuntime) -> anyhow::Result<()> {
         refused: 0,
         wrong: 0,
     };
-    let mut rest = text.as_slice();
-    while let Some((case, after)) = next_case(rest) {
+    let mut cases = Cases {
+        rest: text.as_slice(),
+    };
+    for case in &mut cases {
         tally.count(refusal(case.sheet, &mut records), case.refusal);
-        rest = after;
     }
     println!(rt;
         "accepted: {}, refused: {}, wrong: {}",
         tally.accepted, tally.refused, tally.wrong
     )?;
-    println!(rt; "bytes left: {}", rest.len())?;
+    println!(rt; "bytes left: {}", cases.rest.len())?;
     Ok(())
 }

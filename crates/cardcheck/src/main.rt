@@ -23,18 +23,43 @@ fn read_card(rt: &(impl Input + AllocGlobal)) -> anyhow::Result<Vec<u8>> {
     Ok(bytes)
 }
 
-fn tell_lines(rt: &impl Print, records: &[Record]) -> anyhow::Result<()> {
-    println!(rt; "accepted as lines: {}", records.len())?;
-    for (character, words) in KINDS {
-        let count = count_kind(records, character);
-        println!(rt; "{} {words}: {count}", character as char)?;
+// A card's text, and the records of its lines.
+#[derive(Clone, Copy)]
+struct Card<'a> {
+    text: &'a [u8],
+    records: &'a [Record],
+}
+
+impl<'a> Card<'a> {
+    fn tell(&self, rt: &impl Print) -> anyhow::Result<()> {
+        self.tell_lines(rt)?;
+        self.tell_acceptance::<Whole>(rt, "whole numbers")?;
+        self.tell_acceptance::<Single>(rt, "singles")
     }
-    for record in records {
-        if let Line::Global { name, length } = record.line {
-            tell_global(rt, name, length)?;
+
+    fn tell_lines(&self, rt: &impl Print) -> anyhow::Result<()> {
+        println!(rt; "accepted as lines: {}", self.records.len())?;
+        for (character, words) in KINDS {
+            let count = count_kind(self.records, character);
+            println!(rt; "{} {words}: {count}", character as char)?;
         }
+        for record in self.records {
+            if let Line::Global { name, length } = record.line {
+                tell_global(rt, name, length)?;
+            }
+        }
+        Ok(())
     }
-    Ok(())
+
+    // Whether the lines are a script for a number kind, which is named in words.
+    fn tell_acceptance<K: NumberKind>(&self, rt: &impl Print, kind: &str) -> anyhow::Result<()> {
+        let Err(refusal) = accept::<K>(self.records) else {
+            println!(rt; "accepted for {kind}")?;
+            return Ok(());
+        };
+        println!(rt; "refused for {kind}: {refusal}")?;
+        tell_line(rt, self.text, refusal.line)
+    }
 }
 
 fn tell_global(rt: &impl Print, name: Name, length: u16) -> anyhow::Result<()> {
@@ -57,35 +82,18 @@ fn tell_line(rt: &impl Print, text: &[u8], number: usize) -> anyhow::Result<()> 
     Ok(())
 }
 
-// Whether the lines are a script for a number kind, which is named in words.
-fn tell_acceptance<K: NumberKind>(
-    rt: &impl Print,
-    text: &[u8],
-    records: &[Record],
-    kind: &str,
-) -> anyhow::Result<()> {
-    let Err(refusal) = accept::<K>(records) else {
-        println!(rt; "accepted for {kind}")?;
-        return Ok(());
-    };
-    println!(rt; "refused for {kind}: {refusal}")?;
-    tell_line(rt, text, refusal.line)
-}
-
-fn tell_sheet(rt: &impl Print, text: &[u8], records: &[Record]) -> anyhow::Result<()> {
-    tell_lines(rt, records)?;
-    tell_acceptance::<Whole>(rt, text, records, "whole numbers")?;
-    tell_acceptance::<Single>(rt, text, records, "singles")
-}
-
 fn main(rt: HostRuntime) -> anyhow::Result<()> {
-    let card = read_card(&rt)?;
+    let bytes = read_card(&rt)?;
+    let text = bytes.as_slice();
     let mut records = vec![in rt.alloc(); Record::BLANK; MOST_LINES]?;
-    match read_lines(&card, &mut records) {
-        Ok(count) => tell_sheet(&rt, &card, &records[0..count]),
+    match read_lines(text, &mut records) {
+        Ok(count) => {
+            let records = &records[0..count];
+            Card { text, records }.tell(&rt)
+        }
         Err(refusal) => {
             println!(rt; "refused: {refusal}")?;
-            tell_line(&rt, &card, refusal.line)
+            tell_line(&rt, text, refusal.line)
         }
     }
 }

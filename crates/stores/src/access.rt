@@ -7,7 +7,7 @@ use crate::store::{NoSuchCell, Store};
 use std::fmt;
 
 // What can be asked of a store.
-#[derive(Clone, Copy)]
+#[derive(Clone, Copy, PartialEq, Eq, Debug)]
 pub enum Access {
     Size,
     Load(usize),
@@ -65,7 +65,7 @@ pub fn serve<S: Store>(
     ensures lent { S.Store.lent store.new ≡ S.Store.lent store.old }
 {
     let count = requests.len().min(replies.len());
-    // The replies by their places: after a `zip` of `iter_mut` a proof no longer knows what the slice holds.
+    // The replies by their places: tried, after a `zip` with `iter_mut` a proof no longer knows what the slice holds.
     for (i, request) in requests[..count].iter().enumerate() {
         replies[i] = answer(store, *request);
     }

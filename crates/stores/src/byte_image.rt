@@ -44,7 +44,8 @@ impl<'a> Store for ByteImage<'a> {
             .map(u32::from_le_bytes)
     }
 
-    // A put that is done writes the four bytes of its cell and no other byte.
+    // A put that is done writes the four bytes of its cell and no other byte. By their places: of a write through `as_chunks_mut`
+    // the library does not say what the slice ends as.
     fn put(&mut self, at: usize, word: u32) -> Result<(), NoSuchCell>
         ensures answer { AnswersPut (image_words self.old.bytes.now) at result }
         ensures words { image_words self.new.bytes.now ≡ slice_set (image_words self.old.bytes.now) at word }

@@ -8,7 +8,7 @@ use kinds::{ArithmeticFault, NumberKind};
 use std::fmt;
 use std::str::FromStr;
 
-#[derive(Clone, Copy, PartialEq, Eq)]
+#[derive(Clone, Copy, PartialEq, Eq, Debug)]
 pub enum Operation {
     Add,
     Subtract,
@@ -63,7 +63,7 @@ impl FromStr for Operation {
 }
 
 // What an operation gives where it has a result.
-#[derive(Clone, Copy, PartialEq, Eq)]
+#[derive(Clone, Copy, PartialEq, Eq, Debug)]
 pub enum Value {
     Word(u32),
     Truth(bool),

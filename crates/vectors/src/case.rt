@@ -7,7 +7,7 @@ use crate::unread::Unread;
 use kinds::ArithmeticFault;
 use std::str::FromStr;
 
-#[derive(Clone, Copy)]
+#[derive(Clone, Copy, PartialEq, Eq, Debug)]
 pub struct Case {
     pub operation: Operation,
     pub a: u32,

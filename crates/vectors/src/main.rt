@@ -60,10 +60,10 @@ fn lines_unread(text: &str) -> usize {
         .count()
 }
 
-fn run(rt: &HostRuntime) -> anyhow::Result<()> {
+fn main(rt: HostRuntime) -> anyhow::Result<()> {
     let alloc = rt.alloc();
-    let published = fs::read_to_string(rt, "binary32.txt")?;
-    let by_hand = fs::read_to_string(rt, "whole.txt")?;
+    let published = fs::read_to_string(&rt, "binary32.txt")?;
+    let by_hand = fs::read_to_string(&rt, "whole.txt")?;
     let of_single = cases_of(alloc, published.as_str(), finite)?;
     let of_whole = cases_of(alloc, by_hand.as_str(), |case| case)?;
     for operation in Operation::ALL {
@@ -80,8 +80,4 @@ fn run(rt: &HostRuntime) -> anyhow::Result<()> {
         lines_unread(by_hand.as_str())
     )?;
     Ok(())
-}
-
-fn main(rt: HostRuntime) -> anyhow::Result<()> {
-    run(&rt)
 }
