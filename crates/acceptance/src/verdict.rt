@@ -47,6 +47,7 @@ impl SheetCause {
 }
 
 impl fmt::Display for SheetCause {
+    // by hand: the text is promised, which a derive does not state
     ghost output = { λ cause. Some (meaning_of cause) };
 
     fn fmt<W: fmt::Write>(&self, f: &mut fmt::Formatter<W>) -> fmt::Result {

@@ -4,7 +4,7 @@
 pub const DOUBLE: &[u8] =
     b"1,g,1,0,0,0\n2,g,2,0,0,0\n3,x,3,0,0,0\n4,k,0,0,0,0\n5,=,3,4,0,0\n6,x,4,0,0,0\n7,k,0,0,0,0\n8,s,6,7,0,0\n9,x,3,0,0,0\n10,k,1,0,0,0\n11,-,9,10,0,0\n12,x,4,0,0,0\n13,p,1,11,12,0\n14,x,4,0,0,0\n15,x,4,0,0,0\n16,k,2,0,0,0\n17,+,15,16,0,0\n18,s,14,17,0,0\n19,;,13,18,0,0\n20,i,5,8,19,0\n21,d,1,3,4,20\n22,x,1,0,0,0\n23,x,2,0,0,0\n24,p,1,22,23,0\n25,e,21,24,0,0\n";
 
-// Damaged sheets, read into four records: the number and the line of each refusal.
+// Damaged sheets, read into four records: the number and the line of each refusal, as the rules of a card give them.
 pub const DAMAGED: [(&str, u8, usize); 36] = [
     // no byte
     ("", 1, 0),

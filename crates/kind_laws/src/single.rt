@@ -1,4 +1,5 @@
-// Single's operations, in exact numbers. Each contract speaks of lawful words.
+// Single's operations, in exact numbers. Each contract speaks of lawful words: a premise, since a type of them would ask more of
+// callers. One function for each operation, since what differs is the theorem.
 ghost use Rattle.std.specs.Prelude.{◌≡◌, T, int_lt};
 ghost use Rattle.kinds.specs.Single.{lawful};
 ghost use Rattle.kind_laws.specs.Comparing.{Constant, Equality, Index};

@@ -21,6 +21,7 @@ impl From<ArithmeticFault> for u8 {
 }
 
 impl fmt::Display for ArithmeticFault {
+    // by hand: the text is promised, which a derive does not state
     ghost output = { λ fault. Some (in_words fault) };
 
     fn fmt<W: fmt::Write>(&self, f: &mut fmt::Formatter<W>) -> fmt::Result {

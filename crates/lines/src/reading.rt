@@ -12,6 +12,7 @@ use crate::sorts::{ConditionSort, DeclarationSort, ExpressionSort, Sort, Stateme
 use text::fields::{Fields, six_fields};
 use text::numbers::read_number;
 
+// Here and below the definitions take the four fields one by one, as the card's format tells of them.
 fn expression_line(sort: ExpressionSort, f: &Fields<'_>) -> Option<Line>
     ensures { result ≡ expression_line sort f.now.a.now f.now.b.now f.now.c.now f.now.d.now }
 {

@@ -40,6 +40,7 @@ impl Cause {
 }
 
 impl fmt::Display for Cause {
+    // by hand: the text is promised, which a derive does not state
     ghost output = { λ cause. Some (meaning_of cause) };
 
     fn fmt<W: fmt::Write>(&self, f: &mut fmt::Formatter<W>) -> fmt::Result {

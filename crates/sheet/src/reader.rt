@@ -15,7 +15,8 @@ pub const MOST_BYTES: usize = 65536;
 
 pub const MOST_LINES: usize = 2048;
 
-// Reads the lines of a text into the records, one a line, and gives their number. At a refusal the records of the lines before it are filled.
+// Reads the lines of a text into the records, one a line, and gives their number: a part of the records as the result would borrow
+// from them, and leave unsaid what their memory holds after. At a refusal the records of the lines before it are filled.
 pub fn read_lines(text: &[u8], records: &mut [Record]) -> Result<usize, Refusal<Cause>>
     ensures answer { result ≡ answer (outcome (length records.old) text.now) }
     ensures bound { IfOk result (λ count. count ≤ length records.old) }

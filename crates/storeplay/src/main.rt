@@ -9,6 +9,7 @@ use play::{play_both, play_bytes, play_words};
 use std::io;
 use stores::{Access, NoSuchCell, Reply};
 
+// Each reply behind its place; what a reply prints as is its own.
 fn show(rt: &impl Print, replies: &[Result<Reply, NoSuchCell>]) -> io::Result<()> {
     for (at, reply) in replies.iter().enumerate() {
         match reply {

@@ -6,8 +6,8 @@ ghost use Rattle.stores.specs.Tables.{table_words, table_rest};
 
 use stores::{Access, ByteImage, NoSuchCell, Reply, WordTable, same_answers, serve};
 
-// `play_words` and `play_bytes` stay apart: one function over both would need a trait whose store type borrows from
-// the memory, an associated type with a lifetime parameter, which Rattle lacks.
+// `play_words` and `play_bytes` stay apart: what they share is `serve`, and what is promised of the memory is said in words of the
+// one and in bytes of the other.
 
 // On a slice of words. Past the table's cells the slice is untouched.
 pub(crate) fn play_words(

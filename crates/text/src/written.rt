@@ -26,6 +26,7 @@ impl From<WriteRefusal> for u8 {
 
 // What it means, in plain words.
 impl fmt::Display for WriteRefusal {
+    // by hand: the text is promised, which a derive does not state
     ghost output = { λ refusal. Some (refusal_meaning refusal) };
 
     fn fmt<W: fmt::Write>(&self, f: &mut fmt::Formatter<W>) -> fmt::Result {

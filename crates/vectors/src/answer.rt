@@ -69,6 +69,7 @@ pub enum Value {
     Truth(bool),
 }
 
+// A match, since a file says which operation it is.
 pub(crate) fn answer_of<K: NumberKind>(
     operation: Operation,
     a: u32,
