@@ -49,7 +49,7 @@ impl<'a> Iterator for Cases<'a> {
 }
 
 // The next case, and the text after it; nothing where the text has no more.
-fn next_case<'a>(text: &'a [u8]) -> Option<(Case<'a>, &'a [u8])>
+pub fn next_case<'a>(text: &'a [u8]) -> Option<(Case<'a>, &'a [u8])>
     ensures { IfSome result (λ p. length p.1.now < length text.now) }
 {
     let (sheet, rest) = take_sheet(text)?;
