@@ -96,7 +96,16 @@ pub enum Line {
 // As what its declaring line declares a name.
 #[derive(Clone, Copy, PartialEq, Eq, Debug)]
 pub enum Role {
-    // the variable, array or procedure that the line is for
+    // a global simple variable, in that cell
+    GlobalSimple {
+        cell: u32,
+    },
+    // a global array, in as many cells from the first on
+    GlobalArray {
+        first: u32,
+        length: u16,
+    },
+    // the variable, array or procedure that a v, r or d line is for
     Declared,
     ValueFormal,
     VariableFormal,

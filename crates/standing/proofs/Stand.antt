@@ -1,10 +1,9 @@
 -- The records of an accepted sheet stand for its text.
-use Rattle.std.proofs.Common.{◌≡◌, ℕ, zero, suc, ◌+◌, ◌<◌, ◌≤◌, Bool, true, false, ◌||◌, eqb, ◌⊎◌, List, [], ◌∷◌, ◌++◌, length, get_or, ℤ, Some, None, Option, sym, refl, ap, ◌∙◌, subst, inl, inr, arith}
+use Rattle.std.proofs.Common.{◌≡◌, ℕ, zero, suc, ◌+◌, ◌<◌, ◌≤◌, true, false, ◌⊎◌, List, [], ◌∷◌, ◌++◌, length, get_or, ℤ, Some, Option, sym, refl, ap, ◌∙◌, subst, inl, inr, arith}
 use mathlib.Core.Path.{transport}
 use lib.ListN.{get_or-eq_default}
 use Rattle.std.proofs.lemmas.Bool.{both_ways, cases_lt, eq-eqb, ne_eqb, or_left, or_right}
 use Rattle.lines.specs.declared.records.Line.{Line}
-use Rattle.lines.specs.declared.records.Line.TheVariants as Line
 use Rattle.lines.specs.declared.records.Role.{Role}
 use Rattle.lines.specs.declared.records.Role.TheVariants.{Declared, ValueFormal, VariableFormal, GlobalSimple, GlobalArray}
 use Rattle.lines.specs.declared.records.Declaration.{Declaration}
@@ -12,13 +11,12 @@ use Rattle.lines.specs.declared.records.Record.{Record}
 use Rattle.script.specs.Names.{Names, Standing, nothing, cell, cells}
 use Rattle.script.specs.Script.{Declarations, procedure, joined, only}
 use Rattle.script.specs.Tree.{Part, declarations, grow, grown, line, nought, other, part}
-use Rattle.script.specs.Apart.{Globals, Scope, declarations_apart, found, global_of, globals_from, globals_of, heads, no_globals, own, own_value, own_variable, past_globals}
+use Rattle.script.specs.Apart.{Globals, Scope, declarations_apart, found, global_of, globals_from, globals_of, heads, no_globals, own, past_globals}
 use Rattle.script.specs.Lists.{Any, Each, times}
-use Rattle.script.specs.Scoped.{Among}
 use Rattle.script.specs.Fields.{class_of, fields, is_nothing, named_in}
 use Rattle.script.specs.Around.{Naming, inside, inside_by, naming, procedures, procedures_of, scope_at, with_listed, silent, uses_simple, uses_array, uses_procedure, opens_simple, opens_array, opens_system, opens_body, joins}
 use Rattle.script.specs.IsScript.{IsScript}
-use Rattle.script.specs.Tests.{declared, declared_by}
+use Rattle.script.specs.Tests.{declared_by}
 use Rattle.script.proofs.Lists.{each_from, each_map, times_each}
 use Rattle.script.proofs.Grow.{grow_at}
 use Rattle.script.proofs.Naming.{Told, told, inside_same}
@@ -28,7 +26,7 @@ use Rattle.script.proofs.Spread.{Behind, around_last, around_named, behind, last
 use Rattle.script.proofs.Steps.{ScopedPart, is_among}
 use Rattle.script.proofs.Accept.{listed_same, scoped_lines, the_form}
 use Rattle.standing.specs.Records.{Belongs, Resolved, SystemOf, declaration_in, own_name, record_at}
-use Rattle.standing.specs.Standing.{Says, Points, ProcedureOf, IsProcedure, Owns, StandsStatement, declares}
+use Rattle.standing.specs.Standing.{Points, IsProcedure, Owns, declares}
 use Rattle.standing.specs.Laws.{RecordsStand}
 use Rattle.standing.proofs.Said.{said, says, value_or}
 use Rattle.standing.proofs.Systems.{ProcedureLine, around_keeps, each_one, found_each, system_at, system_in, system_lines, system_named}

@@ -5,7 +5,7 @@ use Rattle.std.proofs.lemmas.Bool.{both_ways}
 use Rattle.lines.specs.declared.records.Line.{Line}
 use Rattle.lines.specs.declared.records.Record.{Record}
 use Rattle.script.specs.Tree.{line, nought}
-use Rattle.standing.specs.Records.{record_at, line_in}
+use Rattle.standing.specs.Records.{line_in}
 use Rattle.standing.specs.Standing.{Says}
 
 abbrev pub value_or : {A : Type 0} → A → Option A → A

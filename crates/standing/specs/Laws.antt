@@ -1,5 +1,5 @@
 -- The records of an accepted sheet stand for its text.
-use Rattle.std.specs.Prelude.{ℕ, List, length, ℤ}
+use Rattle.std.specs.Prelude.{List, length, ℤ}
 use Rattle.lines.specs.declared.records.Line.{Line}
 use Rattle.lines.specs.declared.records.Record.{Record}
 use Rattle.script.specs.Apart.{globals_of, statement_apart}

@@ -1,8 +1,7 @@
 -- A line's part stands where its record says what the line is and the parts that it names stand.
-use Rattle.std.proofs.Common.{◌≡◌, ℕ, ◌<◌, List, get_or, sym, refl, ap, ◌∙◌, subst}
+use Rattle.std.proofs.Common.{◌≡◌, ℕ, ◌<◌, List, get_or, refl, ap, ◌∙◌, subst}
 use mathlib.Core.Path.{transport}
 use Rattle.lines.specs.declared.records.Line.{Line}
-use Rattle.lines.specs.declared.records.Line.TheVariants as Line
 use Rattle.lines.specs.declared.records.Role.TheVariants.{Declared}
 use Rattle.lines.specs.declared.records.Declaration.{Declaration}
 use Rattle.lines.specs.declared.records.Record.{Record}

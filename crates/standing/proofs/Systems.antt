@@ -1,10 +1,9 @@
 -- The system that each procedure of a sheet belongs to, and the procedures that a scope has.
-use Rattle.std.proofs.Common.{◌≡◌, ℕ, zero, suc, ◌<◌, ◌≤◌, Bool, true, false, eqb, ◌⊎◌, List, [], ◌∷◌, ◌++◌, length, get_or, sym, refl, ap, ◌∙◌, subst, inl, inr, arith}
+use Rattle.std.proofs.Common.{◌≡◌, ℕ, zero, suc, ◌<◌, ◌≤◌, Bool, true, false, eqb, ◌⊎◌, List, [], ◌∷◌, get_or, sym, refl, ap, ◌∙◌, subst, inl, inr, arith}
 use mathlib.Core.Path.{transport}
 use Rattle.lines.specs.declared.records.Line.{Line}
-use Rattle.lines.specs.declared.records.Line.TheVariants as Line
 use Rattle.script.specs.Tree.{Part, grow, grown, other, part}
-use Rattle.script.specs.Apart.{Scope, found}
+use Rattle.script.specs.Apart.{found}
 use Rattle.script.specs.Lists.{Any, Each, times}
 use Rattle.script.specs.Scoped.{Among}
 use Rattle.script.specs.Fields.{class_of, fields, is_nothing, named_in}

@@ -1,8 +1,7 @@
 -- When the records of a sheet stand for a text whose declarations are told apart: the record at a line is what the text is there,
 -- its parts stand at the earlier lines that it names, and the declaration that it tells has the text's name for its own.
-use Rattle.std.specs.Prelude.{◌≡◌, ℕ, ◌<◌, Bool, true, ◌||◌, List, Some, None, Option, ◌==◌}
+use Rattle.std.specs.Prelude.{◌≡◌, ℕ, ◌<◌, Bool, true, ◌||◌, List, Some, ◌==◌}
 use Rattle.lines.specs.declared.records.Line.{Line}
-use Rattle.lines.specs.declared.records.Line.TheVariants as Line
 use Rattle.lines.specs.declared.records.Role.TheVariants.{Declared}
 use Rattle.lines.specs.declared.records.Declaration.{Declaration}
 use Rattle.lines.specs.declared.records.Record.{Record}
