@@ -97,14 +97,9 @@ pub enum Line {
 #[derive(Clone, Copy, PartialEq, Eq, Debug)]
 pub enum Role {
     // a global simple variable, in that cell
-    GlobalSimple {
-        cell: u32,
-    },
+    GlobalSimple { cell: u32 },
     // a global array, in as many cells from the first on
-    GlobalArray {
-        first: u32,
-        length: u16,
-    },
+    GlobalArray { first: u32, length: u16 },
     // the variable, array or procedure that a v, r or d line is for
     Declared,
     ValueFormal,
