@@ -1,12 +1,12 @@
 -- What is around a line, one user at a time; and the procedures that declarations have.
-use Rattle.std.proofs.Common.{◌≡◌, ℕ, zero, suc, ◌+◌, ◌-◌, ◌<◌, Bool, true, false, ◌&&◌, ◌||◌, eqb, ltb, List, [], ◌∷◌, ◌++◌, length, get_or, sym, refl, ap, ◌∙◌, ap₂, inl, inr, add-one, arith}
+use Rattle.std.proofs.Common.{◌≡◌, ℕ, zero, suc, ◌+◌, ◌<◌, Bool, true, false, ◌&&◌, ◌||◌, eqb, ltb, List, [], ◌∷◌, ◌++◌, get_or, sym, refl, ap, ◌∙◌, ap₂, inl, inr, add-one, arith}
 use Rattle.std.proofs.lemmas.Bool.{both_ways, cases_lt, le-ltb, lt-ltb}
 use Rattle.std.proofs.Math.Bool.{or-false, or_assoc}
 use Rattle.lines.specs.declared.records.Line.{Line}
-use Rattle.script.specs.Tree.{grow, line, nought}
+use Rattle.script.specs.Tree.{grow, line}
 use Rattle.script.specs.Fields.{fields, named_in}
 use Rattle.script.specs.Lists.{times}
-use Rattle.script.specs.Around.{Naming, around, fellows, fellows_by, handed, if_named, joins, naming, opens_array, opens_body, opens_simple, opens_system, silent, user, uses_array, uses_procedure, uses_simple}
+use Rattle.script.specs.Around.{Naming, if_named, joins, naming, opens_array, opens_body, opens_simple, opens_system, silent, user, uses_array, uses_procedure, uses_simple}
 use Rattle.script.specs.Tests.{procedures_at, procedures_by, taken_before, under}
 use Rattle.script.proofs.Grow.{grow_at, grow_beyond}
 use Rattle.acceptance.specs.Naming.{stands}
@@ -71,49 +71,3 @@ module _ (n q : ℕ) where
 
     pub taken_at : (a : ℕ) (l : Line) → l ≡ L a → taken a ≡ taken_step a (naming l)
     taken_at a l e = taken_cases a (naming (L a)) ∙ ap (λ k. taken_step a (naming k)) (sym e)
-
-module _ (ls : List Line) where
-  abbrev last : ℕ
-  last = length ls
-
-  abbrev pub fellows_from : ℕ → ℕ → List (ℕ × ℕ)
-  fellows_from f n = around (fellows (under (line ls))) [] (line ls) last f n
-
-  handed_any : (p : ℕ) (y : List (ℕ × ℕ)) → handed (fellows (under (line ls))) [] (line ls) last p y ≡ fellows_by (under (line ls)) (naming (line ls p)) y
-  handed_any zero y = refl
-  handed_any (suc p) y = refl
-
-  pub fellows_turn : (i n p : ℕ) (l : Line) → i < last → p ≡ user (line ls) (suc last) n → l ≡ line ls p
-      → fellows_from (last - i) n ≡ fellows_by (under (line ls)) (naming l) (fellows_from (last - (i + 1)) p)
-  fellows_turn i n p l q e h =
-      let s : last - i ≡ suc (last - (i + 1)) = omega arith in
-      ap (λ f. fellows_from f n) s
-      ∙ (ap (λ u. handed (fellows (under (line ls))) [] (line ls) last u (fellows_from (last - (i + 1)) u)) (sym e)
-      ∙ (handed_any p (fellows_from (last - (i + 1)) p)
-      ∙ ap (λ k. fellows_by (under (line ls)) (naming k) (fellows_from (last - (i + 1)) p)) (sym h)))
-
-  pub fellows_top : (i n : ℕ) → i < last → 0 ≡ user (line ls) (suc last) n → fellows_from (last - i) n ≡ []
-  fellows_top i n q e = fellows_turn i n 0 nought q e refl
-
--- of no other sort of line
-pub fellows_rest : (Q : ℕ → List (ℕ × ℕ)) (y : List (ℕ × ℕ)) (x : Line) → ((a b : ℕ) → x ≡ Line.System a b → ⊥) → ((a b : ℕ) → x ≡ Line.Join a b → ⊥)
-    → fellows_by Q (naming x) y ≡ []
-fellows_rest Q y (Line.Global a b) h k = refl
-fellows_rest Q y (Line.Constant z) h k = refl
-fellows_rest Q y (Line.Simple a) h k = refl
-fellows_rest Q y (Line.Element a b) h k = refl
-fellows_rest Q y (Line.Operation o a b) h k = refl
-fellows_rest Q y (Line.Comparison r a b) h k = refl
-fellows_rest Q y (Line.Choice a b c) h k = refl
-fellows_rest Q y (Line.Truth b) h k = refl
-fellows_rest Q y (Line.Negation a) h k = refl
-fellows_rest Q y (Line.Implication a b) h k = refl
-fellows_rest Q y (Line.Assignment a b) h k = refl
-fellows_rest Q y (Line.Sequence a b) h k = refl
-fellows_rest Q y (Line.Branch a b c) h k = refl
-fellows_rest Q y (Line.Call a b c) h k = refl
-fellows_rest Q y (Line.NewSimple a b) h k = refl
-fellows_rest Q y (Line.NewArray a b c) h k = refl
-fellows_rest Q y (Line.System a b) h k = absurd (h a b refl)
-fellows_rest Q y (Line.Procedure a b c d) h k = refl
-fellows_rest Q y (Line.Join a b) h k = absurd (k a b refl)

@@ -35,5 +35,5 @@ abbrev pub deeper : Option ℕ → Option ℕ → Option ℕ
 deeper o p = given o (λ a. given p (λ b. Some (max a b)))
 
 -- what there is of line m, where m is below n
-abbrev pub if_below : ℕ → ℕ → Option ℕ → Option ℕ
+abbrev pub if_below : {A : Type 0} → ℕ → ℕ → Option A → Option A
 if_below n m o = cond (nat_lt m n) o None

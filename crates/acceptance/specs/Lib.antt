@@ -4,3 +4,4 @@ pub mod Naming
 pub mod Depths
 pub mod Scopes
 pub mod Verdict
+pub mod Scripts

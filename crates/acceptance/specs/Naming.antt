@@ -1,7 +1,5 @@
 -- Whether a line is named and by which, as the program asks it. Nothing here needs to be believed: the tests of the crate script are what the checks promise.
 use Rattle.std.specs.Prelude.{ℕ, Bool, false, ◌||◌, List, [], ◌∷◌, Some, None, Option, ◌==◌}
-use Rattle.lines.specs.declared.records.Line.{Line}
-use Rattle.script.specs.Tests.{under}
 
 -- m is one of the numbers
 abbrev pub stands : ℕ → List ℕ → Bool
@@ -17,8 +15,3 @@ stands_again before (m ∷ ms) = stands m before || stands_again (m ∷ before) 
 abbrev pub line_of_user : Option ℕ → ℕ
 line_of_user None = 0
 line_of_user (Some n) = n
-
--- the procedures under a line that may be there
-abbrev pub under_some : (ℕ → Line) → Option ℕ → List (ℕ × ℕ)
-under_some L None = []
-under_some L (Some n) = under L n

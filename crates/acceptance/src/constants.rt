@@ -3,7 +3,7 @@ ghost use Rattle.std.specs.Prelude.{◌≡◌, suc, length};
 ghost use Rattle.script.specs.Tree.{line};
 ghost use Rattle.script.specs.Tests.{lowest, off_kind};
 
-use crate::sheet::Sheet;
+use crate::sheet_lines::Sheet;
 use kinds::NumberKind;
 use lines::records::Line;
 

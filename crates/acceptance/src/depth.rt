@@ -5,7 +5,7 @@ ghost use Rattle.script.specs.Depth.{deepest_allowed, depth};
 ghost use Rattle.script.specs.Tests.{lowest};
 ghost use Rattle.acceptance.specs.Depths.{above, deeper, as_condition_deep, as_expression_deep, counted, if_below};
 
-use crate::sheet::Sheet;
+use crate::sheet_lines::Sheet;
 use lines::records::{Line, LineNumber};
 
 // The deepest that an expression or a condition may be.

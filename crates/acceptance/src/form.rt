@@ -9,7 +9,7 @@ ghost use Rattle.acceptance.specs.Classes.{field_meant, fields_meant};
 ghost use Rattle.acceptance.specs.Naming.{stands, stands_again};
 
 use crate::classes::{Class, LineField, LineFields, class_of, fields};
-use crate::sheet::Sheet;
+use crate::sheet_lines::Sheet;
 
 impl LineFields {
     // Whether one of the fields names line m.

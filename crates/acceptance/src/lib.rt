@@ -1,11 +1,15 @@
-// Whether the lines of a sheet are a script together: the checks of the whole sheet.
+// Whether the lines of a sheet are a script together: the checks of the whole sheet, and the declarations that its names belong to.
 #![tactic(auto)]
 
 mod classes;
 mod constants;
+mod declared;
 mod depth;
 mod form;
+mod globals;
 mod names;
+mod resolve;
 mod scopes;
-mod sheet;
+pub mod scripts;
+mod sheet_lines;
 pub mod verdict;

@@ -1,13 +1,14 @@
 // Names that are declared twice, and the line that names a line.
-ghost use Rattle.std.specs.Prelude.{◌≡◌, suc, ◌<◌, ◌&&◌, length, nat_lt, IfSome};
+ghost use Rattle.std.specs.Prelude.{◌≡◌, suc, ◌<◌, ◌≤◌, ◌&&◌, length, nat_lt, IfSome};
 ghost use Rattle.script.specs.Tree.{line};
 ghost use Rattle.script.specs.Apart.{as_global};
 ghost use Rattle.script.specs.IsScript.{same_sort};
 ghost use Rattle.script.specs.Tests.{fellows_by_lines, global_again, lowest, name_twice, procedure_again, same_global, taken_before, under};
 ghost use Rattle.script.specs.Around.{user};
-ghost use Rattle.acceptance.specs.Naming.{line_of_user, under_some};
+ghost use Rattle.acceptance.specs.Naming.{line_of_user};
+ghost use Rattle.acceptance.specs.Scopes.{system_at};
 
-use crate::sheet::Sheet;
+use crate::sheet_lines::Sheet;
 use lines::records::{Line, Name};
 
 // Whether two globals of these lengths are both simple or both arrays.
@@ -52,7 +53,7 @@ impl<'a> Sheet<'a> {
     // The line that names line m; the last of them where more do.
     pub(crate) fn user(&self, m: usize) -> Option<usize>
         ensures user { line_of_user result ≡ user (line self.now) (suc (length self.now)) m }
-        ensures counted { IfSome result (λ k. 0 < k) }
+        ensures counted { IfSome result (λ k. (0 < k) × (k ≤ length self.now)) }
     {
         // a loop: with `rfind` the proof does not close, for want of what a range gives from its back
         for k in self.numbers().rev() {
@@ -79,16 +80,17 @@ impl<'a> Sheet<'a> {
         }
     }
 
-    // The line of the declarations that line n is one of, as its system names it.
-    fn declarations_over(&self, n: usize) -> Option<usize>
-        ensures { under_some (line self.now) result ≡ fellows_by_lines (line self.now) (length self.now) n }
+    // The line of the system that the declarations at line n belong to.
+    pub(crate) fn system_over(&self, n: usize) -> Option<usize>
+        ensures is { result ≡ system_at self.now n }
+        ensures low { IfSome result (λ s. s ≤ 2048) }
     {
         let mut at = n;
         // a line of a sheet out of form may be its own user: as many steps as there are lines are enough
         for _step in 0..self.len() {
             at = self.user(at)?;
             match self.line(at) {
-                Line::System { declarations, .. } => return Some(declarations as usize),
+                Line::System { .. } => return Some(at),
                 Line::Join { .. } => {}
                 _ => return None,
             }
@@ -100,9 +102,12 @@ impl<'a> Sheet<'a> {
     fn has_earlier_fellow(&self, n: usize, name: Name) -> bool
         ensures { result ≡ taken_before n name (fellows_by_lines (line self.now) (length self.now) n) }
     {
-        match self.declarations_over(n) {
-            Some(declarations) => self.is_taken(declarations, n, name),
-            None => false,
+        let Some(system) = self.system_over(n) else {
+            return false;
+        };
+        match self.line(system) {
+            Line::System { declarations, .. } => self.is_taken(declarations as usize, n, name),
+            _ => false,
         }
     }
 

@@ -1,100 +1,136 @@
-// Looking up a name in what is around a line: written once for variables, arrays and procedures.
-ghost use Rattle.std.specs.Prelude.{◌≡◌, suc, length};
+// Looking up a name in what is around a line: from the innermost declaration outwards, and then among the globals.
+ghost use Rattle.std.specs.Prelude.{◌≡◌, [], ◌∷◌, suc, length};
 ghost use Rattle.script.specs.Tree.{line};
 ghost use Rattle.script.specs.Around.{naming};
-ghost use Rattle.script.specs.Apart.{globals_of, heads};
-ghost use Rattle.script.specs.Tests.{among, lowest, not_declared, scope_by_lines, under};
-ghost use Rattle.acceptance.specs.Scopes.{any_global, declares, known, listed, suits};
+ghost use Rattle.script.specs.Apart.{globals_of};
+ghost use Rattle.script.specs.Tests.{lowest, not_declared, under};
+ghost use Rattle.acceptance.specs.Depths.{if_below};
+ghost use Rattle.acceptance.specs.Scopes.{array_entries, declaration_at, declared_around, entries, last_declared, procedure_entries, simple_entries, system_entries};
 
-use crate::sheet::Sheet;
-use lines::records::{Line, LineNumber, Name};
+use crate::declared::{ArrayDeclared, ProcedureDeclared, SimpleDeclared, Sought, search};
+use crate::sheet_lines::Sheet;
+use lines::records::{Declaration, Line, LineNumber, Name, Role};
 
-// The sort of name that is looked up.
-#[derive(Clone, Copy, PartialEq, Eq, Debug)]
-pub(crate) enum Sought {
-    Simple,
-    Array,
-    Procedure,
+// The simple variable that line p declares by that name: a new one, or a formal.
+fn simple_of(said: Line, p: LineNumber, name: Name) -> Option<Declaration>
+    ensures { result ≡ last_declared (simple_entries p (naming said)) name }
+{
+    let declared_as = |name: Name, role: Role| SimpleDeclared {
+        name,
+        declaration: Declaration { line: p, role },
+    };
+    match said {
+        Line::NewSimple { name: declared, .. } => {
+            search(&[declared_as(declared, Role::Declared)], name)
+        }
+        Line::Procedure {
+            value_formal,
+            variable_formal,
+            ..
+        } => search(
+            &[
+                declared_as(value_formal, Role::ValueFormal),
+                declared_as(variable_formal, Role::VariableFormal),
+            ],
+            name,
+        ),
+        _ => None,
+    }
 }
 
-impl Sought {
-    // Whether a global of that length is of this sort.
-    fn suits(self, length: u16) -> bool
-        ensures { result ≡ suits self length }
-    {
-        self == if length == 0 {
-            Sought::Simple
-        } else {
-            Sought::Array
-        }
-    }
+// The array that line p declares by that name.
+fn array_of(said: Line, p: LineNumber, name: Name) -> Option<Declaration>
+    ensures { result ≡ last_declared (array_entries p (naming said)) name }
+{
+    let Line::NewArray { name: declared, .. } = said else {
+        return None;
+    };
+    let declaration = Declaration {
+        line: p,
+        role: Role::Declared,
+    };
+    search(
+        &[ArrayDeclared {
+            name: declared,
+            declaration,
+        }],
+        name,
+    )
 }
 
 impl<'a> Sheet<'a> {
-    // Whether the declarations at a line have a procedure of that name.
-    fn has_procedure(&self, declarations: LineNumber, name: Name) -> bool
-        ensures { result ≡ listed name (under (line self.now) «declarations») }
+    // The procedure of that name among the declarations at line d: the last of them, where more have it.
+    #[cycle(procedure_at)]
+    fn procedure_at(&self, d: LineNumber, name: Name) -> Option<Declaration>
+        ensures { result ≡ last_declared (procedure_entries (under (line self.now) d)) name }
     {
-        self.is_taken(declarations as usize, declarations as usize + 1, name)
-    }
-
-    // Whether line p declares the name for the lines that it names.
-    fn declares(&self, p: usize, sought: Sought, name: Name) -> bool
-        ensures { result ≡ declares sought name (under (line self.now)) (naming (line self.now p)) }
-    {
-        match (self.line(p), sought) {
-            (Line::NewSimple { name: declared, .. }, Sought::Simple) => declared == name,
-            (Line::NewArray { name: declared, .. }, Sought::Array) => declared == name,
-            (
-                Line::Procedure {
-                    value_formal,
-                    variable_formal,
-                    ..
-                },
-                Sought::Simple,
-            ) => variable_formal == name || value_formal == name,
-            (Line::System { declarations, .. }, Sought::Procedure) => {
-                self.has_procedure(declarations, name)
-            }
-            _ => false,
-        }
-    }
-
-    // Whether a global has the name.
-    fn is_global(&self, sought: Sought, name: Name) -> bool
-        ensures { result ≡ any_global sought name (heads self.now) }
-    {
-        // a loop: with `map_while` and `any` the proof does not close
-        for record in self.records() {
-            match record.line {
-                Line::Global {
+        match self.line(d as usize) {
+            Line::Procedure { name: declared, .. } => search(
+                &[ProcedureDeclared {
                     name: declared,
-                    length,
-                } => if sought.suits(length) && declared == name {
-                    return true;
-                },
-                _ => return false,
+                    line: d,
+                }],
+                name,
+            ),
+            Line::Join { first, second } => {
+                let found = self.procedure_below(d, second, name);
+                found.or(self.procedure_below(d, first, name))
             }
+            _ => None,
         }
-        false
     }
 
-    // Whether a declaration around line n, or a global, has the name.
-    fn is_known(&self, n: usize, sought: Sought, name: Name) -> bool
-        ensures { result ≡ among (known sought (scope_by_lines (line self.now) (length self.now) (globals_of self.now).scope n)) name }
+    // The procedure of that name among the declarations at line m, where line d may name it.
+    #[cycle(procedure_at)]
+    fn procedure_below(&self, d: LineNumber, m: LineNumber, name: Name) -> Option<Declaration>
+        ensures { result ≡ if_below d m (last_declared (procedure_entries (under (line self.now) m)) name) }
+    {
+        if m < d {
+            self.procedure_at(m, name)
+        } else {
+            None
+        }
+    }
+
+    // The procedure of that name that the line declares.
+    fn procedure_of(&self, said: Line, name: Name) -> Option<Declaration>
+        ensures { result ≡ last_declared (system_entries (under (line self.now)) (naming said)) name }
+    {
+        match said {
+            Line::System { declarations, .. } => self.procedure_at(declarations, name),
+            _ => None,
+        }
+    }
+
+    // What line p declares by that name for the lines that it names.
+    fn declared_by(&self, p: LineNumber, sought: Sought, name: Name) -> Option<Declaration>
+        ensures { result ≡ last_declared (entries sought (under (line self.now)) p (naming (line self.now p))) name }
+    {
+        let said = self.line(p as usize);
+        match sought {
+            Sought::Simple => simple_of(said, p, name),
+            Sought::Array => array_of(said, p, name),
+            Sought::Procedure => self.procedure_of(said, name),
+        }
+    }
+
+    // The declaration that a name on line n belongs to: the innermost around it, or a global.
+    fn look_up(&self, n: usize, sought: Sought, name: Name) -> Option<Declaration>
+        ensures { result ≡ declared_around sought name self.now n }
     {
         let mut at = n;
         // a line of a sheet out of form may be its own user: as many steps as there are lines are enough
         for _step in 0..self.len() {
             let Some(user) = self.user(at) else {
-                return self.is_global(sought, name);
+                return self.globals().find(sought, name);
             };
-            if self.declares(user, sought, name) {
-                return true;
+            let found = self.declared_by(user as LineNumber, sought, name);
+            if found.is_some() {
+                return found;
             }
             at = user;
         }
-        self.is_global(sought, name)
+        self.globals().find(sought, name)
     }
 
     // Whether line n uses a name that no declaration around it, and no global, has.
@@ -102,9 +138,9 @@ impl<'a> Sheet<'a> {
         ensures { result ≡ not_declared (line self.now) (length self.now) (globals_of self.now).scope n }
     {
         match self.line(n) {
-            Line::Simple { name } => !self.is_known(n, Sought::Simple, name),
-            Line::Element { name, .. } => !self.is_known(n, Sought::Array, name),
-            Line::Call { procedure, .. } => !self.is_known(n, Sought::Procedure, procedure),
+            Line::Simple { name } => self.look_up(n, Sought::Simple, name).is_none(),
+            Line::Element { name, .. } => self.look_up(n, Sought::Array, name).is_none(),
+            Line::Call { procedure, .. } => self.look_up(n, Sought::Procedure, procedure).is_none(),
             _ => false,
         }
     }
@@ -114,5 +150,22 @@ impl<'a> Sheet<'a> {
         ensures { result ≡ lowest (not_declared (line self.now) (length self.now) (globals_of self.now).scope) (suc (length self.now)) }
     {
         self.numbers().find(|n| self.is_undeclared(*n))
+    }
+
+    // The declaration that the record of line n tells: where it uses a name, the one that the name belongs to; for a procedure, its system.
+    pub(crate) fn declaration_at(&self, n: usize) -> Option<Declaration>
+        ensures { result ≡ declaration_at self.now n }
+    {
+        match self.line(n) {
+            Line::Simple { name } => self.look_up(n, Sought::Simple, name),
+            Line::Element { name, .. } => self.look_up(n, Sought::Array, name),
+            Line::Call { procedure, .. } => self.look_up(n, Sought::Procedure, procedure),
+            Line::Procedure { .. } => {
+                let line = self.system_over(n)? as LineNumber;
+                let role = Role::Declared;
+                Some(Declaration { line, role })
+            }
+            _ => None,
+        }
     }
 }

@@ -1,11 +1,14 @@
 // Whether a sheet is a script, and what it is refused for if it is not.
-ghost use Rattle.std.specs.Prelude.{◌≡◌, Some, None};
+ghost use Rattle.std.specs.Prelude.{◌≡◌, ◌≤◌, Some, None, length, MatchResult};
+ghost use Rattle.standing.specs.Records.{Resolved};
 ghost use Rattle.script.specs.Causes.{number_of};
 ghost use Rattle.script.specs.Tests.{or_later, refusal};
 ghost use Rattle.acceptance.specs.Sheet.{lines_of};
 ghost use Rattle.acceptance.specs.Verdict.{reason_of, meaning_of, told, Judged};
 
-use crate::sheet::Sheet;
+use crate::globals::Globals;
+use crate::resolve::resolve;
+use crate::sheet_lines::Sheet;
 use kinds::NumberKind;
 use lines::records::Record;
 use lines::refusals::Refusal;
@@ -58,12 +61,17 @@ impl fmt::Display for SheetCause {
 impl Error for SheetCause {}
 
 // Whether the lines are a script for the number kind; else the first cause, in the order of the refusals, with its lowest line:
-// line 0 where the sheet has none.
-pub fn accept<K: NumberKind>(records: &[Record]) -> Result<(), Refusal<SheetCause>>
-    ensures right { Judged K.kind.least K.kind.most (lines_of records.now) result }
-    ensures refusal { told result ≡ refusal K.kind.least K.kind.most (lines_of records.now) }
+// line 0 where the sheet has none. The records of a script tell their declarations; at a refusal they stay as they are.
+pub(crate) fn accept<K: NumberKind>(records: &mut [Record]) -> Result<(), Refusal<SheetCause>>
+    requires { length records.old ≤ 2048 }
+    ensures right { Judged K.kind.least K.kind.most (lines_of records.old) result }
+    ensures refusal { told result ≡ refusal K.kind.least K.kind.most (lines_of records.old) }
+    ensures records { MatchResult result (λ u. Resolved (lines_of records.old) records.new) (λ e. records.new ≡ records.old) }
 {
-    Sheet::new(records).judge::<K>()
+    let globals = Globals::of(records);
+    Sheet::new(records, &globals).judge::<K>()?;
+    resolve(records, &globals);
+    Ok(())
 }
 
 impl<'a> Sheet<'a> {

@@ -1,25 +1,19 @@
 // Every cause of refusal, in its order, for whole numbers and for singles.
 use crate::samples::{SHEETS, Told};
-use acceptance::verdict::accept;
+use acceptance::scripts::read_script;
 use kinds::{NumberKind, Single, Whole};
 use lines::records::Record;
 use lines::refusals::Refusal;
-use sheet::reader::read_lines;
 use std::alloc::{AllocError, Global};
 use std::test::Fail;
 
 // What the sheet is refused for, if it is.
-fn verdict<K: NumberKind>(text: &str, records: &mut [Record]) -> Result<Told, Fail> {
-    let Ok(count) = read_lines(text.as_bytes(), records) else {
-        return Err(Fail::new("the sheet is not even read"));
+fn verdict<K: NumberKind>(text: &str, records: &mut [Record]) -> Told {
+    let Err(refusal) = read_script::<K>(text.as_bytes(), records) else {
+        return None;
     };
-    match accept::<K>(&records[0..count]) {
-        Ok(()) => Ok(None),
-        Err(refusal) => {
-            let Refusal { cause, line } = refusal.numbered();
-            Ok(Some((cause, line)))
-        }
-    }
+    let Refusal { cause, line } = refusal.numbered();
+    Some((cause, line))
 }
 
 // A branch whose condition is so many negations deep, and is true or false at the bottom.
@@ -50,8 +44,8 @@ fn nested(heap: Global, negations: u16) -> Result<String, AllocError> {
 fn sheets_have_their_verdicts(rt: HostRuntime) -> Result<(), Fail> {
     for (text, whole, single) in SHEETS {
         let mut records = [Record::BLANK; 40];
-        assert_eq!(rt; verdict::<Whole>(text, &mut records)?, whole);
-        assert_eq!(rt; verdict::<Single>(text, &mut records)?, single);
+        assert_eq!(rt; verdict::<Whole>(text, &mut records), whole);
+        assert_eq!(rt; verdict::<Single>(text, &mut records), single);
     }
     Ok(())
 }
@@ -60,10 +54,10 @@ fn sheets_have_their_verdicts(rt: HostRuntime) -> Result<(), Fail> {
 fn depth_ends_at_64(rt: HostRuntime) -> Result<(), Fail> {
     let mut records = [Record::BLANK; 80];
     let deepest = nested(rt.alloc(), 63)?;
-    assert_eq!(rt; verdict::<Whole>(deepest.as_str(), &mut records)?, None);
+    assert_eq!(rt; verdict::<Whole>(deepest.as_str(), &mut records), None);
     let deeper = nested(rt.alloc(), 64)?;
     assert_eq!(rt;
-        verdict::<Whole>(deeper.as_str(), &mut records)?,
+        verdict::<Whole>(deeper.as_str(), &mut records),
         Some((9, 66))
     );
     Ok(())

@@ -3,12 +3,12 @@
 
 mod cases;
 
-use acceptance::verdict::accept;
+use acceptance::scripts::{Script, ScriptCause, read_script};
 use cases::Cases;
 use kinds::Whole;
 use lines::records::Record;
 use lines::refusals::Refusal;
-use sheet::reader::{MOST_LINES, read_lines};
+use sheet::reader::MOST_LINES;
 use std::fs;
 
 // How many cases came out as they should, and how many did not.
@@ -32,15 +32,13 @@ impl Tally {
     }
 }
 
-// The refusal of a sheet, or nothing where it is a script for whole numbers.
-fn refusal(sheet: &[u8], records: &mut [Record]) -> Option<Refusal<u8>> {
-    let count = match read_lines(sheet, records) {
-        Ok(count) => count,
-        Err(refusal) => return Some(refusal.numbered()),
-    };
-    accept::<Whole>(&records[0..count])
-        .err()
-        .map(|refusal| refusal.numbered())
+// The sheet as a script for whole numbers, or why it is none.
+fn script<'r>(
+    sheet: &[u8],
+    records: &'r mut [Record],
+) -> Result<Script<'r, Whole>, Refusal<ScriptCause>> {
+    let count = read_script::<Whole>(sheet, records)?;
+    Ok(Script::new(&records[..count]))
 }
 
 fn main(rt: HostRuntime) -> anyhow::Result<()> {
@@ -55,7 +53,8 @@ fn main(rt: HostRuntime) -> anyhow::Result<()> {
         rest: text.as_slice(),
     };
     for case in &mut cases {
-        tally.count(refusal(case.sheet, &mut records), case.refusal);
+        let refusal = script(case.sheet, &mut records).err();
+        tally.count(refusal.map(|refusal| refusal.numbered()), case.refusal);
     }
     println!(rt;
         "accepted: {}, refused: {}, wrong: {}",

@@ -3,7 +3,7 @@
 
 mod words;
 
-use acceptance::verdict::accept;
+use acceptance::scripts::read_script;
 use account::kinds_of_line::count_kind;
 use account::printable::printable_part;
 use kinds::{NumberKind, Single, Whole};
@@ -23,43 +23,34 @@ fn read_card(rt: &(impl Input + AllocGlobal)) -> anyhow::Result<Vec<u8>> {
     Ok(bytes)
 }
 
-// A card's text, and the records of its lines.
-#[derive(Clone, Copy)]
-struct Card<'a> {
-    text: &'a [u8],
-    records: &'a [Record],
+// What the lines say.
+fn tell_lines(rt: &impl Print, records: &[Record]) -> anyhow::Result<()> {
+    println!(rt; "accepted as lines: {}", records.len())?;
+    for (character, words) in KINDS {
+        let count = count_kind(records, character);
+        println!(rt; "{} {words}: {count}", character as char)?;
+    }
+    for record in records {
+        if let Line::Global { name, length } = record.line {
+            tell_global(rt, name, length)?;
+        }
+    }
+    Ok(())
 }
 
-impl<'a> Card<'a> {
-    fn tell(&self, rt: &impl Print) -> anyhow::Result<()> {
-        self.tell_lines(rt)?;
-        self.tell_acceptance::<Whole>(rt, "whole numbers")?;
-        self.tell_acceptance::<Single>(rt, "singles")
-    }
-
-    fn tell_lines(&self, rt: &impl Print) -> anyhow::Result<()> {
-        println!(rt; "accepted as lines: {}", self.records.len())?;
-        for (character, words) in KINDS {
-            let count = count_kind(self.records, character);
-            println!(rt; "{} {words}: {count}", character as char)?;
-        }
-        for record in self.records {
-            if let Line::Global { name, length } = record.line {
-                tell_global(rt, name, length)?;
-            }
-        }
-        Ok(())
-    }
-
-    // Whether the lines are a script for a number kind, which is named in words.
-    fn tell_acceptance<K: NumberKind>(&self, rt: &impl Print, kind: &str) -> anyhow::Result<()> {
-        let Err(refusal) = accept::<K>(self.records) else {
-            println!(rt; "accepted for {kind}")?;
-            return Ok(());
-        };
-        println!(rt; "refused for {kind}: {refusal}")?;
-        tell_line(rt, self.text, refusal.line)
-    }
+// Whether the text is a script for a number kind, which is named in words.
+fn tell_acceptance<K: NumberKind>(
+    rt: &impl Print,
+    text: &[u8],
+    records: &mut [Record],
+    kind: &str,
+) -> anyhow::Result<()> {
+    let Err(refusal) = read_script::<K>(text, records) else {
+        println!(rt; "accepted for {kind}")?;
+        return Ok(());
+    };
+    println!(rt; "refused for {kind}: {refusal}")?;
+    tell_line(rt, text, refusal.line)
 }
 
 fn tell_global(rt: &impl Print, name: Name, length: u16) -> anyhow::Result<()> {
@@ -88,8 +79,9 @@ fn main(rt: HostRuntime) -> anyhow::Result<()> {
     let mut records = vec![in rt.alloc(); Record::BLANK; MOST_LINES]?;
     match read_lines(text, &mut records) {
         Ok(count) => {
-            let records = &records[0..count];
-            Card { text, records }.tell(&rt)
+            tell_lines(&rt, &records[..count])?;
+            tell_acceptance::<Whole>(&rt, text, &mut records, "whole numbers")?;
+            tell_acceptance::<Single>(&rt, text, &mut records, "singles")
         }
         Err(refusal) => {
             println!(rt; "refused: {refusal}")?;

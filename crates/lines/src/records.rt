@@ -94,20 +94,21 @@ pub enum Line {
 }
 
 // As what its declaring line declares a name.
-#[derive(Clone, Copy, PartialEq, Eq, Debug)]
+#[derive(Clone, Copy, PartialEq, Eq, Debug, Default)]
 pub enum Role {
     // a global simple variable, in that cell
     GlobalSimple { cell: u32 },
     // a global array, in as many cells from the first on
     GlobalArray { first: u32, length: u16 },
     // the variable, array or procedure that a v, r or d line is for
+    #[default]
     Declared,
     ValueFormal,
     VariableFormal,
 }
 
 // The declaration that a name belongs to.
-#[derive(Clone, Copy, PartialEq, Eq, Debug)]
+#[derive(Clone, Copy, PartialEq, Eq, Debug, Default)]
 pub struct Declaration {
     pub line: LineNumber,
     pub role: Role,

@@ -1,6 +1,9 @@
 -- The cases, computed.
-use Rattle.std.proofs.Common.{◌≡◌, ℕ, List, [], ◌∷◌, length, pos, refl, ap, subst}
+use Rattle.std.proofs.Common.{◌≡◌, ℕ, zero, suc, ◌<◌, ◌≤◌, List, [], ◌∷◌, map, length, get_or, pos, ℤ, None, Option, refl, sym, ap, ◌∙◌, subst, arith}
+use Rattle.std.specs.List.{range_with_len}
+use Rattle.std.proofs.lemmas.List.FromFn.{get_or-map-range_with_len}
 use Rattle.lines.specs.declared.records.Line.{Line}
+use Rattle.lines.specs.declared.records.Declaration.{Declaration}
 use Rattle.kinds.specs.Whole.{whole}
 use Rattle.kinds.specs.Single.{single}
 use Rattle.sheet.specs.Reading.{from_line}
@@ -8,9 +11,14 @@ use Rattle.script.specs.Script.{Statement, assign, simple, constant}
 use Rattle.script.specs.Tree.{Part, place, expression, condition, statement, declarations, other, part, line}
 use Rattle.script.specs.IsScript.{IsScript}
 use Rattle.script.proofs.Verdict.{accepted_exactly}
+use Rattle.standing.specs.Records.{declaration_in, record_at}
+use Rattle.acceptance.specs.Scopes.{declaration_at}
+use Rattle.acceptance.specs.Scripts.{Accepted}
+use Rattle.acceptance.proofs.Belonging.{belonging}
+use Rattle.acceptance.proofs.Reading.{accepted}
 use Rattle.rule.specs.Closing.{Closing, Closes, program_of}
 use Rattle.rule.proofs.Count.{closing, closes_by}
-use Rattle.published.specs.Double.{double}
+use Rattle.published.specs.Double.{double, double_records}
 use Rattle.published.specs.Cases.{Published}
 use Rattle.published.specs.Scopes.{ToldApart, through_formal, own_locals, static_scope, fixed_index, alias, shadowed_procedure}
 
@@ -32,12 +40,40 @@ closes : (ls : List Line) (size : ℕ) (g : List ℕ) (n : ℕ) (c : Closing)
     → (s : IsScript whole.least whole.most ls) → Closes whole (program_of ls s.text) size g n c
 closes ls size g n c h s = subst (λ t. Closes whole (program_of ls t) size g n c) (ap the_statement s.is) (closes_by whole (program_of ls (text ls)) size g n c h)
 
+-- what the record of line n of the double sheet tells, and what it has to tell
+abbrev told : ℕ → Option Declaration
+told n = declaration_in (record_at double_records n)
+
+abbrev due : ℕ → Option Declaration
+due n = declaration_at double n
+
+-- they are the same, computed for the 25 lines together, and so for each
+all_told : map told (range_with_len 1 25) ≡ map due (range_with_len 1 25)
+all_told = refl
+
+each_told : (n : ℕ) → 0 < n → n ≤ 25 → told n ≡ due n
+each_told zero p q = absurd (omega arith)
+each_told (suc i) p q =
+    sym (get_or-map-range_with_len told 1 25 i (suc i) None (omega arith) (omega arith))
+    ∙ (ap (λ os. get_or os i None) all_told ∙ get_or-map-range_with_len due 1 25 i (suc i) None (omega arith) (omega arith))
+
+accepted_double : (low high : ℤ) → IsScript low high double → Accepted low high double_records
+accepted_double low high s = accepted low high double double_records s (belonging low high double s double_records refl each_told)
+
+script_for_whole : IsScript whole.least whole.most double
+script_for_whole = (accepted_exactly whole.least whole.most double).0.0 refl
+
+script_for_single : IsScript single.least single.most double
+script_for_single = (accepted_exactly single.least single.most double).0.0 refl
+
 pub published : Published
 unfolding from_line
 published = record {
   read = refl;
-  for_whole = (accepted_exactly whole.least whole.most double).0.0 refl;
-  for_single = (accepted_exactly single.least single.most double).0.0 refl;
+  for_whole = script_for_whole;
+  for_single = script_for_single;
+  accepted_for_whole = accepted_double whole.least whole.most script_for_whole;
+  accepted_for_single = accepted_double single.least single.most script_for_single;
   nought = closes double 1024 (0 ∷ 9 ∷ []) 1000000 _ refl;
   three = closes double 1024 (3 ∷ 9 ∷ []) 1000000 _ refl;
   one_stopped = closes double 1024 (1 ∷ 9 ∷ []) 7 _ refl;

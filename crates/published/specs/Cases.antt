@@ -7,7 +7,8 @@ use Rattle.sheet.specs.Reading.{outcome}
 use Rattle.script.specs.IsScript.{IsScript}
 use Rattle.rule.specs.Rewriting.{Ending, finished, stopped, fault}
 use Rattle.rule.specs.Closing.{Closes, program_of}
-use Rattle.published.specs.Double.{double_text, double}
+use Rattle.acceptance.specs.Scripts.{Accepted}
+use Rattle.published.specs.Double.{double_text, double, double_records}
 
 -- a run of the double sheet with whole numbers: so many cells, the first two words, the allowance; how it ends, the count, the two words after
 abbrev pub Run : ℕ → ℕ → ℕ → ℕ → Ending → ℕ → ℕ → ℕ → Type 0
@@ -19,6 +20,9 @@ pub record Published : Type 0 where
   pub read : outcome 25 double_text ≡ record { lines = double; refusal = None }
   pub for_whole : IsScript whole.least whole.most double
   pub for_single : IsScript single.least single.most double
+  -- its records, as the reader leaves them: they stand for its text, for both kinds; so no contract that asks for accepted records is empty
+  pub accepted_for_whole : Accepted whole.least whole.most double_records
+  pub accepted_for_single : Accepted single.least single.most double_records
   -- its runs over 1,024 cells
   pub nought : Run 1024 0 9 1000000 finished 4 0 0
   pub three : Run 1024 3 9 1000000 finished 16 3 6

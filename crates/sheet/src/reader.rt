@@ -20,6 +20,7 @@ pub const MOST_LINES: usize = 2048;
 pub fn read_lines(text: &[u8], records: &mut [Record]) -> Result<usize, Refusal<Cause>>
     ensures answer { result ≡ answer (outcome (length records.old) text.now) }
     ensures bound { IfOk result (λ count. count ≤ length records.old) }
+    ensures most { IfOk result (λ count. count ≤ 2048) }
     ensures line { IfErr result (λ refusal. refusal.line ≤ 2049) }
     ensures right { Verdict (length records.old) text.now result }
     ensures only { (s : Result ℕ (Refusal Cause)) → Verdict (length records.old) text.now s → s ≡ result }
@@ -38,6 +39,7 @@ pub fn read_lines(text: &[u8], records: &mut [Record]) -> Result<usize, Refusal<
 fn fill(text: &[u8], records: &mut [Record]) -> Result<usize, Refusal<Cause>>
     ensures answer { result ≡ answer (from_line (length records.old) 1 (rows text.now)) }
     ensures bound { IfOk result (λ count. count ≤ length records.old) }
+    ensures most { IfOk result (λ count. count ≤ 2048) }
     ensures line { IfErr result (λ refusal. refusal.line ≤ 2049) }
     ensures left { records.new ≡ filled (from_line (length records.old) 1 (rows text.now)).lines records.old }
 {

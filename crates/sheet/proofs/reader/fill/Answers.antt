@@ -12,7 +12,7 @@ returns-then-is_empty c =
     let i = c.loop-index.invariant in
     let f = rows_none (length c.args.records.now) (c.loop-index.index + 1) c.loop-index.rest.now (grind (arith, rules)) in
     let e = stopped _ _ _ _ _ _ _ _ i.1 f in
-    record { answer = e.0; bound = i.1.full; line = tt; left = unwritten c.loop-index.record-items (drop c.min-room.result c.args.records.now) c.loop-index.index (record { line = Line.Global 0 0; declaration = None }) ∙ e.1 }
+    record { answer = e.0; bound = i.1.full; most = i.1.within; line = tt; left = unwritten c.loop-index.record-items (drop c.min-room.result c.args.records.now) c.loop-index.index (record { line = Line.Global 0 0; declaration = None }) ∙ e.1 }
 
 pub returns-in-Err : goal.returns-in-Err
 returns-in-Err c =
@@ -20,7 +20,7 @@ returns-in-Err c =
     let k = length-take-le c.min-room.result c.args.records.now (omega arith) in
     let f = lines_refused (length c.args.records.now) (c.loop-index.index + 1) c.loop-index.rest.now _ (omega arith) (omega arith) c.in-Err.ensures in
     let e = stopped _ _ _ _ _ _ _ _ i.1 f in
-    record { answer = e.0; bound = tt; line = omega arith; left = unwritten c.loop-index.record-items (drop c.min-room.result c.args.records.now) c.loop-index.index (record { line = Line.Global 0 0; declaration = None }) ∙ e.1 }
+    record { answer = e.0; bound = tt; most = tt; line = omega arith; left = unwritten c.loop-index.record-items (drop c.min-room.result c.args.records.now) c.loop-index.index (record { line = Line.Global 0 0; declaration = None }) ∙ e.1 }
 
 pub loop-index-preserved : goal.loop-index-preserved
 loop-index-preserved c =
@@ -37,7 +37,7 @@ returns-then-is_empty-2 c =
     let z : c.min-room.result ≡ c.loop-index.index = omega arith in
     let f = rows_none (length c.args.records.now) (c.loop-index.index + 1) c.loop-index.rest.now (grind (arith, rules)) in
     let e = stopped _ _ _ _ _ _ _ _ i.1 f in
-    record { answer = ap Ok z ∙ e.0; bound = omega arith; line = tt; left = e.1 }
+    record { answer = ap Ok z ∙ e.0; bound = omega arith; most = omega (arith, i.1.within); line = tt; left = e.1 }
 
 pub returns : goal.returns
 returns c =
@@ -47,4 +47,4 @@ returns c =
     let t = all_taken (length c.args.records.now) c.loop-index.index (sym z ∙ c.min-room.ensures) in
     let f = lines_full (length c.args.records.now) (c.loop-index.index + 1) (rows c.loop-index.rest.now) (rows_some c.loop-index.rest.now (grind (arith, rules))) t in
     let e = stopped _ _ _ _ _ _ _ _ i.1 f in
-    record { answer = ap (λ n. Err (record { cause = Room; line = n + 1 })) z ∙ e.0; bound = tt; line = omega (arith, c.min-room.ensures); left = e.1 }
+    record { answer = ap (λ n. Err (record { cause = Room; line = n + 1 })) z ∙ e.0; bound = tt; most = tt; line = omega (arith, c.min-room.ensures); left = e.1 }

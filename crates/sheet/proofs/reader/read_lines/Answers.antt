@@ -10,4 +10,4 @@ returns c =
     let text = c.args.text.now in
     let a : c.fill.result ≡ answer (outcome room text) = search rules in
     let v : Verdict room text c.fill.result = subst (Verdict room text) (sym a) (verdict room text) in
-    record { answer = a; bound = c.fill.ensures.bound; line = c.fill.ensures.line; right = v; only = λ s h. one_verdict room text s c.fill.result h v; left = search rules }
+    record { answer = a; bound = c.fill.ensures.bound; most = c.fill.ensures.most; line = c.fill.ensures.line; right = v; only = λ s h. one_verdict room text s c.fill.result h v; left = search rules }

@@ -1,4 +1,0 @@
-use Rattle.acceptance.proofs.sheet.Sheet.+is_taken.Given as goal
-
-abbrev pub decreases-is_taken : goal.decreases-is_taken
-decreases-is_taken l = l.a

@@ -1,0 +1,69 @@
+// The globals of a sheet, as declarations with their cells.
+ghost use Rattle.std.specs.Prelude.{◌≡◌, ◌≤◌, map, length, List};
+ghost use Rattle.lines.specs.declared.records.Line.{Line};
+ghost use Rattle.script.specs.Apart.{heads};
+ghost use Rattle.acceptance.specs.Sheet.{lines_of};
+ghost use Rattle.acceptance.specs.Scopes.{cells_of, global_declared, global_entries, HasGlobals};
+
+use crate::declared::{ArrayDeclared, Named, SimpleDeclared, Sought, search};
+use arrayvec::ArrayVec;
+use lines::records::{Declaration, Line, LineNumber, Name, Record};
+use sheet::reader::MOST_LINES;
+
+// How many cells a global of that length takes.
+fn cells_of(length: u16) -> u32
+    ensures is { result ≡ cells_of length }
+    ensures few { result ≤ 65535 }
+{
+    if length == 0 { 1 } else { length as u32 }
+}
+
+// The globals of one sort, in line order.
+fn list<D: Named + Copy + Default>(records: &[Record]) -> ArrayVec<D, MOST_LINES>
+    requires { length records.now ≤ 2048 }
+    ensures { map D.Named.told result.items ≡ global_entries D.Named.sort 1 0 (heads (lines_of records.now)) }
+{
+    let mut listed = ArrayVec::new();
+    let mut cell: u32 = 0;
+    for (index, record) in records.iter().enumerate() {
+        let Line::Global { name, length } = record.line else {
+            return listed;
+        };
+        let line = (index + 1) as LineNumber;
+        if let Some(declared) = D::of_global(line, cell, name, length) {
+            listed.push(declared);
+        }
+        cell += cells_of(length);
+    }
+    listed
+}
+
+// The globals of a sheet by their sorts; procedures are no globals.
+#[derive(Drop)]
+pub(crate) struct Globals {
+    simples: ArrayVec<SimpleDeclared, MOST_LINES>,
+    arrays: ArrayVec<ArrayDeclared, MOST_LINES>,
+}
+
+impl Globals {
+    pub(crate) fn of(records: &[Record]) -> Globals
+        requires { length records.now ≤ 2048 }
+        ensures { HasGlobals (lines_of records.now) result }
+    {
+        Globals {
+            simples: list(records),
+            arrays: list(records),
+        }
+    }
+
+    // The global of that name.
+    pub(crate) fn find(&self, sought: Sought, name: Name) -> Option<Declaration>
+        ensures { (ls : List Line) → HasGlobals ls self.now → result ≡ global_declared sought name ls }
+    {
+        match sought {
+            Sought::Simple => search(self.simples.as_slice(), name),
+            Sought::Array => search(self.arrays.as_slice(), name),
+            Sought::Procedure => None,
+        }
+    }
+}
