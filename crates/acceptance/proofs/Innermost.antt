@@ -13,6 +13,7 @@ use Rattle.standing.specs.Records.{own_name}
 use Rattle.acceptance.specs.declared.declared.Sought.{Sought}
 use Rattle.acceptance.specs.declared.declared.Sought.TheVariants.{Simple, Array, Procedure}
 use Rattle.acceptance.specs.Scopes.{Entry, at, cells_of, declared_around, declared_from, entries, global_declared, global_entries, global_entry, last_declared, when}
+use Rattle.acceptance.proofs.Roles.{taken_more}
 use Rattle.acceptance.proofs.Called.{called_among, or_assoc, or_nothing}
 use Rattle.acceptance.proofs.Sought.{last_append}
 
@@ -38,7 +39,7 @@ the (Some x) = x
 some_injective : (x y : ℕ) → ◌≡◌ {A = Option ℕ} (Some x) (Some y) → x ≡ y
 some_injective x y e = ap the e
 
-none_some : (x : ℕ) → ◌≡◌ {A = Option ℕ} None (Some x) → ⊥
+pub none_some : (x : ℕ) → ◌≡◌ {A = Option ℕ} None (Some x) → ⊥
 none_some x e = both_ways (is_some {T = ℕ} (Some x)) (sym (ap (is_some {T = ℕ}) e)) refl
 
 or_either : (b c : Bool) (x : ℕ) (o : Option ℕ) → c ≡ is_some o → (b || c) ≡ is_some (option_or (when b x) o)
@@ -140,10 +141,6 @@ module _ (a : ℕ) where
   one_global Procedure n x zero g o = ap (λ w. option_or (own_of w) (pick g.scope.procs a)) (sym (or_nothing o))
   one_global Procedure n x (suc b) g o = ap (λ w. option_or (own_of w) (pick g.scope.procs a)) (sym (or_nothing o))
 
-  taken_more : (n x b : ℕ) (g : Globals) → (global_of n x b g).taken ≡ g.taken + cells_of b
-  taken_more n x zero g = refl
-  taken_more n x (suc b) g = refl
-
   module _ (k : Sought) where
     pick_globals : (n : ℕ) (gs : List (ℕ × ℕ)) (g : Globals)
         → pick (known k (globals_from n gs g).scope) a ≡ option_or (own_of (last_declared (global_entries k n g.taken gs) a)) (pick (known k g.scope) a)
@@ -162,7 +159,7 @@ module _ (a : ℕ) where
       abbrev scope_from : ℕ → ℕ → Scope
       scope_from f n = around (inside (under (line ls))) (globals_of ls).scope (line ls) (length ls) f n
 
-      globals_picked : pick (known k (globals_of ls).scope) a ≡ own_of (global_declared k a ls)
+      pub globals_picked : pick (known k (globals_of ls).scope) a ≡ own_of (global_declared k a ls)
       globals_picked = pick_globals 1 (heads ls) no_globals ∙ (ap (option_or (own_of (global_declared k a ls))) none_known ∙ or_nothing (own_of (global_declared k a ls)))
 
       picked : (f n : ℕ) → pick (known k (scope_from f n)) a ≡ own_of (declared_from k a ls f n)

@@ -8,9 +8,10 @@ pub mod Listing
 pub mod Sought
 pub mod Called
 pub mod Outward
+pub mod Roles
 pub mod Innermost
 pub mod Systems
-pub mod Roles
+pub mod Cells
 pub mod Belonging
 pub mod Filling
 pub mod Reading

@@ -1,5 +1,5 @@
 -- The globals that a sheet begins with, record by record.
-use Rattle.std.proofs.Common.{◌≡◌, ℕ, ◌+◌, ◌<◌, ◌≤◌, List, [], ◌∷◌, ◌++◌, length, get_or, drop, sym, ap, ◌∙◌, inl, inr, add-one}
+use Rattle.std.proofs.Common.{◌≡◌, ℕ, ◌+◌, ◌<◌, ◌≤◌, List, [], ◌∷◌, ◌++◌, length, get_or, drop, None, sym, ap, ◌∙◌, inl, inr, add-one}
 use Rattle.std.proofs.lemmas.List.{at_drop_all, at_drop_more, append_assoc, append-nil}
 use Rattle.lines.specs.declared.records.Line.{Line}
 use Rattle.lines.specs.declared.records.Record.{Record}
@@ -9,14 +9,18 @@ use Rattle.acceptance.specs.declared.declared.Sought.{Sought}
 use Rattle.acceptance.specs.Sheet.{lines_of}
 use Rattle.acceptance.specs.Scopes.{Entry, cells_of, global_entries, global_entry}
 
+-- a record to look up by default
+abbrev pub blank : Record
+blank = record { line = Line.Global 0 0; declaration = None }
+
 module _ (rs : List Record) (i : ℕ) (d : Record) (q : i < length rs) where
   heads_there : heads (lines_of (drop i rs)) ≡ head_then (as_global (get_or rs i d).line) (heads (lines_of (drop (i + 1) rs)))
   heads_there = at_drop_more (λ us. heads (lines_of us)) rs i d q
 
-  heads_more : (a b : ℕ) → (get_or rs i d).line ≡ Line.Global a b → heads (lines_of (drop i rs)) ≡ (a, b) ∷ heads (lines_of (drop (i + 1) rs))
+  pub heads_more : (a b : ℕ) → (get_or rs i d).line ≡ Line.Global a b → heads (lines_of (drop i rs)) ≡ (a, b) ∷ heads (lines_of (drop (i + 1) rs))
   heads_more a b e = heads_there ∙ ap (λ l. head_then (as_global l) (heads (lines_of (drop (i + 1) rs)))) e
 
-  heads_stop : ((a b : ℕ) → (get_or rs i d).line ≡ Line.Global a b → ⊥) → heads (lines_of (drop i rs)) ≡ []
+  pub heads_stop : ((a b : ℕ) → (get_or rs i d).line ≡ Line.Global a b → ⊥) → heads (lines_of (drop i rs)) ≡ []
   heads_stop h = heads_there ∙ elim (global_or (get_or rs i d).line) [
     | inl w ↦ ap (λ o. head_then o (heads (lines_of (drop (i + 1) rs)))) w.0
     | inr w ↦ absurd (h w.0 w.1 w.2)

@@ -1,5 +1,5 @@
 -- What the reader leaves, and that no text has two right answers.
-use Rattle.std.proofs.Common.{◌≡◌, ℕ, cond, eqb, List, [], ◌∷◌, ◌++◌, map, length, take, drop, ℤ, Some, None, Ok, Err, Option, Result, refl, sym, ap, ap₂, ◌∙◌, subst, inl, inr, arith}
+use Rattle.std.proofs.Common.{◌≡◌, ℕ, ◌≤◌, cond, eqb, List, [], ◌∷◌, ◌++◌, map, length, take, drop, ℤ, Some, None, Ok, Err, Option, Result, refl, sym, ap, ap₂, ◌∙◌, subst, inl, inr, arith}
 use lib.ListN.{length-map}
 use Rattle.std.proofs.Math.Seq.{drop-append_seam, take-append_seam}
 use Rattle.lines.specs.declared.records.Line.{Line}
@@ -60,23 +60,23 @@ module _ (ls : List Line) (old new : List Record) (n : ℕ) (e : n ≡ length ls
 
 module _ (low high : ℤ) where
   -- the records of a script whose names are looked up
-  pub accepted : (ls : List Line) (rs : List Record) → IsScript low high ls → Resolved ls rs → Accepted low high rs
-  accepted ls rs s r =
+  pub accepted : (ls : List Line) (rs : List Record) → length rs ≤ 2048 → IsScript low high ls → Resolved ls rs → Accepted low high rs
+  accepted ls rs few s r =
       let t : IsScript low high (lines_of rs) = subst (IsScript low high) (sym r.lines) s in
       let u : Resolved (lines_of rs) rs = subst (λ ks. Resolved ks rs) (sym r.lines) r in
-      record { script = t; resolved = u; stands = records_stand low high (lines_of rs) t rs u }
+      record { few = few; script = t; resolved = u; stands = records_stand low high (lines_of rs) t rs u }
 
   -- what is left where the lines that were read are a script: `part` is what acceptance leaves of their records
-  pub left : (o : Outcome) (old read part : List Record) (n : ℕ) → n ≡ length o.lines → read ≡ filled o.lines old
+  pub left : (o : Outcome) (old read part : List Record) (n : ℕ) → n ≡ length o.lines → n ≤ 2048 → read ≡ filled o.lines old
       → IsScript low high (lines_of (take n read)) → Resolved (lines_of (take n read)) part
       → LeftAs low high o old (Ok n) (part ++ drop n read)
-  left o old read part n e f s r =
+  left o old read part n e few f s r =
       let lines : lines_of part ≡ o.lines = r.lines ∙ front_lines o.lines old read n e f in
       let k : length part ≡ n = sym (length-map part (λ r. r.line)) ∙ (ap length lines ∙ sym e) in
       let h : take n (part ++ drop n read) ≡ part = ap (λ i. take i (part ++ drop n read)) (sym k) ∙ take-append_seam part (drop n read) in
       let d : drop n (part ++ drop n read) ≡ drop n read = ap (λ i. drop i (part ++ drop n read)) (sym k) ∙ drop-append_seam part (drop n read) in (
         ap lines_of h ∙ lines,
-        subst (Accepted low high) (sym h) (accepted (lines_of (take n read)) part s r),
+        subst (Accepted low high) (sym h) (accepted (lines_of (take n read)) part (subst (λ i. i ≤ 2048) (sym k) few) s r),
         d ∙ rest_stays o.lines old read n e f,
       )
 

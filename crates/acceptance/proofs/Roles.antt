@@ -66,7 +66,7 @@ names_stay n [] g y h = refl
 names_stay n (p ∷ ps) g y h = names_stay (suc n) ps (global_of n p.0 p.1 g) y (λ m q. h m (omega arith)) ∙ one_stays n p.0 p.1 y g (h n (omega arith))
 
 -- those from line n on stand only for own names of lines from n on, and below the end
-names_none : (n : ℕ) (gs : List (ℕ × ℕ)) (g : Globals) (y : ℕ) → ((m : ℕ) → n ≤ m → m < n + length gs → ¬ (own m ≡ y)) → (globals_from n gs g).names y ≡ g.names y
+pub names_none : (n : ℕ) (gs : List (ℕ × ℕ)) (g : Globals) (y : ℕ) → ((m : ℕ) → n ≤ m → m < n + length gs → ¬ (own m ≡ y)) → (globals_from n gs g).names y ≡ g.names y
 names_none n [] g y h = refl
 names_none n (p ∷ ps) g y h =
     names_none (suc n) ps (global_of n p.0 p.1 g) y (λ m q r. h m (omega arith) (omega arith)) ∙ one_stays n p.0 p.1 y g (h n (omega arith) (omega arith))
@@ -77,6 +77,10 @@ module _ (ls : List Line) where
 
   pub no_global_here : (l : ℕ) → is_nothing (class_of (line ls l)) ≡ false → G (own l) ≡ nothing
   no_global_here l h = names_none 1 (heads ls) no_globals (own l) (λ m q r e. both_ways (is_nothing (class_of (line ls l))) h (front_of ls l (omega arith)))
+
+  -- 0 is no name of its own of a line
+  pub no_name : G 0 ≡ nothing
+  no_name = names_none 1 (heads ls) no_globals 0 (λ m q r e. omega arith)
 
   pub no_value : (l : ℕ) → G (own_value l) ≡ nothing
   no_value l = names_none 1 (heads ls) no_globals (own_value l) (λ m q r e. omega arith)
@@ -97,11 +101,11 @@ global_right Array n x zero ps g = tt
 global_right Array n x (suc b) ps g = (names_stay (suc n) ps (global_of n x (suc b) g) (own n) (λ m q e. omega arith) ∙ same_name (own n) (cells g.taken (suc b)) g.names, tt)
 global_right Procedure n x b ps g = tt
 
-taken_more : (n x b : ℕ) (g : Globals) → (global_of n x b g).taken ≡ g.taken + cells_of b
+pub taken_more : (n x b : ℕ) (g : Globals) → (global_of n x b g).taken ≡ g.taken + cells_of b
 taken_more n x zero g = refl
 taken_more n x (suc b) g = refl
 
-globals_right : (k : Sought) (n : ℕ) (gs : List (ℕ × ℕ)) (g : Globals) → Each (λ e. Right (globals_from n gs g).names e.1) (global_entries k n g.taken gs)
+pub globals_right : (k : Sought) (n : ℕ) (gs : List (ℕ × ℕ)) (g : Globals) → Each (λ e. Right (globals_from n gs g).names e.1) (global_entries k n g.taken gs)
 globals_right k n [] g = tt
 globals_right k n (p ∷ ps) g =
     let P : Entry → Type 0 = λ e. Right (globals_from (suc n) ps (global_of n p.0 p.1 g)).names e.1 in
@@ -210,13 +214,16 @@ module _ (ls : List Line) where
   entries_right Procedure p (Line.Join a b) e = tt
 
   module _ (k : Sought) (a : ℕ) where
+    pub global_right_there : Holds (Right (globals_of ls).names) (global_declared k a ls)
+    global_right_there = holds_last (Right (globals_of ls).names) (global_entries k 1 0 (heads ls)) a (globals_right k 1 (heads ls) no_globals)
+
     from_right : (f n : ℕ) → Holds (Right (globals_of ls).names) (declared_from k a ls f n)
-    from_right zero n = holds_last (Right (globals_of ls).names) (global_entries k 1 0 (heads ls)) a (globals_right k 1 (heads ls) no_globals)
+    from_right zero n = global_right_there
     from_right (suc f) n = go (user (line ls) (suc (length ls)) n) (from_right f (user (line ls) (suc (length ls)) n))
       where
         go : (u : ℕ) → Holds (Right (globals_of ls).names) (declared_from k a ls f u)
             → Holds (Right (globals_of ls).names) (handed (λ p l o. option_or (last_declared (entries k (under (line ls)) p (naming l)) a) o) (global_declared k a ls) (line ls) (length ls) u (declared_from k a ls f u))
-        go zero h = holds_last (Right (globals_of ls).names) (global_entries k 1 0 (heads ls)) a (globals_right k 1 (heads ls) no_globals)
+        go zero h = global_right_there
         go (suc u) h = holds_or (Right (globals_of ls).names) (last_declared (entries k (under (line ls)) (suc u) (naming (line ls (suc u)))) a) (declared_from k a ls f (suc u))
             (holds_last (Right (globals_of ls).names) (entries k (under (line ls)) (suc u) (naming (line ls (suc u)))) a (entries_right k (suc u) (line ls (suc u)) refl)) h
 

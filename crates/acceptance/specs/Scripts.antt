@@ -1,21 +1,31 @@
 -- Reading a script: a text whose lines are read, and are together a script.
-use Rattle.std.specs.Prelude.{◌≡◌, ℕ, List, length, take, drop, Ok, Err, ℤ, Result}
+use Rattle.std.specs.Prelude.{◌≡◌, ℕ, ◌≤◌, List, length, take, drop, Some, None, Ok, Err, ℤ, Option, Result}
+use Rattle.lines.specs.declared.records.Declaration.{Declaration}
+use Rattle.lines.specs.declared.records.Line.{Line}
 use Rattle.lines.specs.declared.records.Record.{Record}
+use Rattle.lines.specs.declared.records.Role.{Role}
+use Rattle.lines.specs.declared.records.Role.TheVariants.{Declared, ValueFormal, VariableFormal, GlobalSimple, GlobalArray}
 use Rattle.lines.specs.declared.refusals.Refusal.{Refusal}
 use Rattle.sheet.specs.Reading.{Outcome, answer, filled}
+use Rattle.script.specs.Apart.{found, globals_of}
 use Rattle.script.specs.IsScript.{IsScript}
+use Rattle.script.specs.Names.{Standing, nothing, cell, cells}
 use Rattle.script.specs.Causes.{Refused, number_of}
 use Rattle.standing.specs.Records.{Resolved}
 use Rattle.standing.specs.Laws.{StandsFor}
+use Rattle.acceptance.specs.declared.globals.GlobalSort.{GlobalSort}
+use Rattle.acceptance.specs.declared.globals.GlobalSort.TheVariants.{Simple, Array}
 use Rattle.acceptance.specs.declared.scripts.ScriptCause.{ScriptCause}
 use Rattle.acceptance.specs.declared.scripts.ScriptCause.TheVariants.{OfLine, OfSheet}
 use Rattle.acceptance.specs.Sheet.{lines_of}
 use Rattle.acceptance.specs.Verdict.{reason_of, meaning_of}
 use Rattle.lines.specs.Refusals.{number_of as line_number_of, meaning_of as line_meaning_of}
 
--- The records of a script for the number kind with the constants from low to high: their lines are one, each record that uses a name tells
--- the declaration that the name belongs to, and so they stand for the script's text, its declarations told apart.
+-- The records of a script for the number kind with the constants from low to high: there are no more than a sheet may have, their lines are
+-- one, each record that uses a name tells the declaration that the name belongs to, and so they stand for the script's text, its declarations
+-- told apart.
 pub record Accepted (low high : ℤ) (rs : List Record) : Type 0 where
+  pub few : length rs ≤ 2048
   pub script : IsScript low high (lines_of rs)
   pub resolved : Resolved (lines_of rs) rs
   pub stands : StandsFor low high (lines_of rs) script rs
@@ -45,3 +55,20 @@ script_number_of (OfSheet c) = number_of (reason_of c)
 abbrev pub script_meaning_of : ScriptCause → List ℕ
 script_meaning_of (OfLine c) = line_meaning_of c
 script_meaning_of (OfSheet c) = meaning_of c
+
+-- what the global of a sort and a name stands for by the copy rule: nothing where there is none
+abbrev pub global_standing : List Line → GlobalSort → ℕ → Standing
+global_standing ls Simple a = (globals_of ls).names (found (globals_of ls).scope.simples a)
+global_standing ls Array a = (globals_of ls).names (found (globals_of ls).scope.arrays a)
+
+-- what a global's declaration tells that it stands for
+abbrev pub cells_told : Role → Standing
+cells_told (GlobalSimple c) = cell c
+cells_told (GlobalArray b n) = cells b n
+cells_told Declared = nothing
+cells_told ValueFormal = nothing
+cells_told VariableFormal = nothing
+
+abbrev pub standing_of : Option Declaration → Standing
+standing_of None = nothing
+standing_of (Some d) = cells_told d.role

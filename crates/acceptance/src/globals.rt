@@ -1,7 +1,7 @@
 // The globals of a sheet, as declarations with their cells.
 ghost use Rattle.std.specs.Prelude.{◌≡◌, ◌≤◌, map, length, List};
 ghost use Rattle.lines.specs.declared.records.Line.{Line};
-ghost use Rattle.script.specs.Apart.{heads};
+ghost use Rattle.script.specs.Apart.{globals_of, heads};
 ghost use Rattle.acceptance.specs.Sheet.{lines_of};
 ghost use Rattle.acceptance.specs.Scopes.{cells_of, global_declared, global_entries, HasGlobals};
 
@@ -10,12 +10,34 @@ use arrayvec::ArrayVec;
 use lines::records::{Declaration, Line, LineNumber, Name, Record};
 use sheet::reader::MOST_LINES;
 
+// The two sorts of global.
+#[derive(Clone, Copy, PartialEq, Eq, Debug)]
+pub enum GlobalSort {
+    Simple,
+    Array,
+}
+
 // How many cells a global of that length takes.
-fn cells_of(length: u16) -> u32
+pub fn cells_of(length: u16) -> u32
     ensures is { result ≡ cells_of length }
     ensures few { result ≤ 65535 }
 {
     if length == 0 { 1 } else { length as u32 }
+}
+
+// How many cells the globals take together.
+pub(crate) fn cells_taken(records: &[Record]) -> u32
+    requires { length records.now ≤ 2048 }
+    ensures { result ≡ (globals_of (lines_of records.now)).taken }
+{
+    let mut taken: u32 = 0;
+    for record in records {
+        let Line::Global { length, .. } = record.line else {
+            return taken;
+        };
+        taken += cells_of(length);
+    }
+    taken
 }
 
 // The globals of one sort, in line order.

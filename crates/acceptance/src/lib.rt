@@ -6,7 +6,7 @@ mod constants;
 mod declared;
 mod depth;
 mod form;
-mod globals;
+pub mod globals;
 mod names;
 mod resolve;
 mod scopes;

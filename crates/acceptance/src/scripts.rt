@@ -1,14 +1,19 @@
 // Scripts: reading one from the text of a sheet, and the lines of one as a type.
 ghost use Rattle.std.specs.Prelude.{◌≡◌, ℕ, ◌≤◌, List, length, IfOk, Result, Some};
+ghost use Rattle.script.specs.Apart.{globals_of};
 ghost use Rattle.lines.specs.declared.records.Record.{Record};
 ghost use Rattle.lines.specs.declared.refusals.Refusal.{Refusal};
 ghost use Rattle.sheet.specs.Reading.{outcome};
 ghost use Rattle.acceptance.specs.declared.scripts.ScriptCause.{ScriptCause};
-ghost use Rattle.acceptance.specs.Scripts.{Accepted, LeftAs, RightAnswer, script_meaning_of, script_number_of};
+ghost use Rattle.acceptance.specs.Scopes.{HasGlobals};
+ghost use Rattle.acceptance.specs.Scripts.{Accepted, LeftAs, RightAnswer, global_standing, script_meaning_of, script_number_of, standing_of};
+ghost use Rattle.acceptance.specs.Sheet.{lines_of};
 
+use crate::declared::Sought;
+use crate::globals::{GlobalSort, Globals, cells_taken};
 use crate::verdict::{SheetCause, accept};
 use kinds::NumberKind;
-use lines::records::Record;
+use lines::records::{Declaration, Name, Record};
 use lines::refusals::{Cause, Refusal};
 use sheet::reader::read_lines;
 use std::error::Error;
@@ -83,10 +88,11 @@ pub fn read_script<K: NumberKind>(
     }
 }
 
-// The lines of a script for a number kind, which is what a session opens.
+// The lines of a script for a number kind, which is what a session opens, and its globals, listed once.
 #[derive(Drop)]
 pub struct Script<'r, K: NumberKind> {
     records: &'r [Record],
+    globals: Globals,
     kind: PhantomData<K>,
 }
 
@@ -95,7 +101,7 @@ impl<'r, K: NumberKind> Model for Script<'r, K> {
 
     ghost view = { λ s. s.records.now };
 
-    ghost invariant = { λ s. Accepted K.kind.least K.kind.most s.records.now };
+    ghost invariant = { λ s. Accepted K.kind.least K.kind.most s.records.now × HasGlobals (lines_of s.records.now) s.globals };
 }
 
 impl<'r, K: NumberKind> Script<'r, K> {
@@ -107,6 +113,7 @@ impl<'r, K: NumberKind> Script<'r, K> {
     {
         Script {
             records,
+            globals: Globals::of(records),
             kind: PhantomData,
         }
     }
@@ -117,5 +124,23 @@ impl<'r, K: NumberKind> Script<'r, K> {
         ensures accepted { Accepted K.kind.least K.kind.most self.now }
     {
         self.records
+    }
+
+    // How many cells its globals take.
+    pub fn cells(&self) -> u32
+        ensures { result ≡ (globals_of (lines_of self.now)).taken }
+    {
+        cells_taken(self.records)
+    }
+
+    // The declaration of the global of that sort and name, which tells its cells.
+    pub fn global(&self, sort: GlobalSort, name: Name) -> Option<Declaration>
+        ensures { standing_of result ≡ global_standing (lines_of self.now) sort name }
+    {
+        let sought = match sort {
+            GlobalSort::Simple => Sought::Simple,
+            GlobalSort::Array => Sought::Array,
+        };
+        self.globals.find(sought, name)
     }
 }

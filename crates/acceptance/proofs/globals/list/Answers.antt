@@ -1,16 +1,11 @@
-use Rattle.std.proofs.Common.{◌≡◌, ◌+◌, ◌≤◌, [], ◌∷◌, ◌++◌, map, length, drop, None, sym, ap, ◌∙◌, arith}
+use Rattle.std.proofs.Common.{◌≡◌, ◌+◌, ◌≤◌, [], ◌∷◌, ◌++◌, map, length, drop, sym, ap, ◌∙◌, arith}
 use Rattle.std.proofs.lemmas.List.{append-nil, map-append}
-use Rattle.lines.specs.declared.records.Line.TheVariants.{Global}
-use Rattle.lines.specs.declared.records.Record.{Record}
 use Rattle.script.specs.Apart.{heads}
 use Rattle.acceptance.specs.Sheet.{lines_of}
 use Rattle.acceptance.specs.Scopes.{global_entries, listed}
-use Rattle.acceptance.proofs.Listing.{listing_end, listing_stop, listing_turn}
+use Rattle.acceptance.proofs.Listing.{blank, listing_end, listing_stop, listing_turn}
 use Rattle.acceptance.proofs.globals.list.Goals as goal
 use Rattle.acceptance.proofs.globals.list.Goals.{in-Some, in_default-of_global}
-
-abbrev blank : Record
-blank = record { line = Global 0 0; declaration = None }
 
 pub returns-in_default : goal.returns-in_default
 returns-in_default g c =

@@ -20,7 +20,7 @@ returns-in-Ok-accept g c =
       right = right;
       only = λ s h. one_answer low high o (Ok c.in-Ok.count) s right h;
       bound = c.in-Ok.ensures.bound;
-      left = left low high o c.args.records.now c.read_lines.new.records c.accept.new.records c.in-Ok.count n c.read_lines.ensures.left c.in-Ok-accept.ensures.right c.in-Ok-accept.ensures.records;
+      left = left low high o c.args.records.now c.read_lines.new.records c.accept.new.records c.in-Ok.count n c.in-Ok.ensures.most c.read_lines.ensures.left c.in-Ok-accept.ensures.right c.in-Ok-accept.ensures.records;
     }
 
 pub returns-in-Err-accept-clause-right : goal.returns-in-Err-accept-clause-right

@@ -1,0 +1,129 @@
+-- The cells that the globals of a sheet take, and what a global's declaration tells.
+use Rattle.std.proofs.Common.{◌≡◌, ℕ, ◌+◌, zero, suc, ◌<◌, ◌≤◌, Bool, true, false, eqb, List, [], ◌∷◌, length, get_or, drop, Some, None, Option, sym, refl, ap, ◌∙◌, subst, add-one, arith}
+use Rattle.std.proofs.lemmas.List.{at_drop_all}
+use Rattle.std.specs.Option.{option_or}
+use Rattle.lines.specs.declared.records.Line.{Line}
+use Rattle.lines.specs.declared.records.Record.{Record}
+use Rattle.lines.specs.declared.records.Role.{Role}
+use Rattle.lines.specs.declared.records.Role.TheVariants.{Declared, ValueFormal, VariableFormal, GlobalSimple, GlobalArray}
+use Rattle.lines.specs.declared.records.Declaration.{Declaration}
+use Rattle.script.specs.Names.{Names, Standing, nothing, cell, cells}
+use Rattle.script.specs.Apart.{Globals, found, global_of, globals_from, globals_of, heads, no_globals, own}
+use Rattle.script.specs.Lists.{Each}
+use Rattle.script.proofs.Lists.{each_left, each_right}
+use Rattle.standing.specs.Records.{RoleRight, own_name}
+use Rattle.acceptance.specs.declared.declared.Sought.{Sought}
+use Rattle.acceptance.specs.declared.declared.Sought.TheVariants.{Simple, Array}
+use Rattle.acceptance.specs.Sheet.{lines_of}
+use Rattle.acceptance.specs.Scopes.{Entry, cells_of, global_declared, global_entries, global_entry, when}
+use Rattle.acceptance.specs.Scripts.{cells_told, standing_of}
+use Rattle.acceptance.proofs.Innermost.{found_pick, globals_picked, known, none_some, own_of, pick}
+use Rattle.acceptance.proofs.Listing.{heads_more, heads_stop}
+use Rattle.acceptance.proofs.Roles.{Holds, Right, global_right_there, globals_right, no_name, taken_more}
+
+-- ## Cells
+
+abbrev pub cells_in : List (ℕ × ℕ) → ℕ
+cells_in [] = 0
+cells_in (g ∷ gs) = cells_of g.1 + cells_in gs
+
+pub taken_is : (n : ℕ) (gs : List (ℕ × ℕ)) (g : Globals) → (globals_from n gs g).taken ≡ g.taken + cells_in gs
+taken_is n [] g = omega arith
+taken_is n (p ∷ ps) g =
+    let rest : (globals_from (suc n) ps (global_of n p.0 p.1 g)).taken ≡ (global_of n p.0 p.1 g).taken + cells_in ps = taken_is (suc n) ps (global_of n p.0 p.1 g) in
+    let here : (global_of n p.0 p.1 g).taken ≡ g.taken + cells_of p.1 = taken_more n p.0 p.1 g in
+    omega (arith, rest, here)
+
+-- the cells counted so far, and those of the records that are left, are all that are taken
+abbrev pub Counted : List Record → ℕ → ℕ → Type 0
+Counted rs i taken = taken + cells_in (heads (lines_of (drop i rs))) ≡ (globals_of (lines_of rs)).taken
+
+module _ (rs : List Record) where
+  pub counted_first : Counted rs 0 0
+  counted_first = sym (taken_is 1 (heads (lines_of rs)) no_globals)
+
+  module _ (i taken : ℕ) (inv : Counted rs i taken) where
+    module _ (d : Record) (q : i < length rs) where
+      pub counted_turn : (a b : ℕ) → (get_or rs i d).line ≡ Line.Global a b → Counted rs (i + 1) (taken + cells_of b)
+      counted_turn a b e =
+          let more : cells_in (heads (lines_of (drop i rs))) ≡ cells_of b + cells_in (heads (lines_of (drop (i + 1) rs))) = ap cells_in (heads_more rs i d q a b e) in
+          let was : taken + cells_in (heads (lines_of (drop i rs))) ≡ (globals_of (lines_of rs)).taken = inv in
+          omega (arith, more, was)
+
+      pub counted_stop : ((a b : ℕ) → (get_or rs i d).line ≡ Line.Global a b → ⊥) → taken ≡ (globals_of (lines_of rs)).taken
+      counted_stop h =
+          let none : cells_in (heads (lines_of (drop i rs))) ≡ 0 = ap cells_in (heads_stop rs i d q h) in
+          let was : taken + cells_in (heads (lines_of (drop i rs))) ≡ (globals_of (lines_of rs)).taken = inv in
+          omega (arith, none, was)
+
+    pub counted_end : length rs ≤ i → taken ≡ (globals_of (lines_of rs)).taken
+    counted_end q =
+        let none : cells_in (heads (lines_of (drop i rs))) ≡ 0 = ap cells_in (at_drop_all (λ us. heads (lines_of us)) rs i q) in
+        let was : taken + cells_in (heads (lines_of (drop i rs))) ≡ (globals_of (lines_of rs)).taken = inv in
+        omega (arith, none, was)
+
+-- ## The globals' cells, line by line
+
+-- what a global of that length stands for, from a cell on
+abbrev pub stretch : ℕ → ℕ → Standing
+stretch c zero = cell c
+stretch c (suc k) = cells c (suc k)
+
+-- the globals from a record on, the first of them with its cells from one on, stand for what their names stand for
+abbrev pub TellGlobals : List Record → ℕ → ℕ → Type 0
+TellGlobals rs i first = (k : Sought) → Each (λ e. Right (globals_of (lines_of rs)).names e.1) (global_entries k (i + 1) first (heads (lines_of (drop i rs))))
+
+module _ (rs : List Record) where
+  abbrev P : Entry → Type 0
+  P e = Right (globals_of (lines_of rs)).names e.1
+
+  pub tell_first : TellGlobals rs 0 0
+  tell_first k = globals_right k 1 (heads (lines_of rs)) no_globals
+
+  module _ (i first : ℕ) (d : Record) (q : i < length rs) (a b : ℕ) (e : (get_or rs i d).line ≡ Line.Global a b) (t : TellGlobals rs i first) where
+    abbrev rest : List (ℕ × ℕ)
+    rest = heads (lines_of (drop (i + 1) rs))
+
+    here : (k : Sought) → Each P (global_entries k (i + 1) first ((a, b) ∷ rest))
+    here k = subst (λ gs. Each P (global_entries k (i + 1) first gs)) (heads_more rs i d q a b e) (t k)
+
+    pub tell_here : (globals_of (lines_of rs)).names (own (i + 1)) ≡ stretch first b
+    tell_here = go b (λ k. each_left P (global_entry k (i + 1) first a b) (global_entries k (suc (i + 1)) (first + cells_of b) rest) (here k))
+      where
+        go : (b : ℕ) → ((k : Sought) → Each P (global_entry k (i + 1) first a b)) → (globals_of (lines_of rs)).names (own (i + 1)) ≡ stretch first b
+        go zero h = (h Simple).0
+        go (suc k) h = (h Array).0
+
+    pub tell_more : TellGlobals rs (i + 1) (first + cells_of b)
+    tell_more k = subst (λ n. Each P (global_entries k n (first + cells_of b) rest)) (sym (add-one (i + 1)))
+        (each_right P (global_entry k (i + 1) first a b) (global_entries k (suc (i + 1)) (first + cells_of b) rest) (here k))
+
+-- ## What a global stands for
+
+role_tells : (G : Names) (l : ℕ) (r : Role) → RoleRight G l r → cells_told r ≡ G (own_name l r)
+role_tells G l Declared h = sym h
+role_tells G l ValueFormal h = sym h
+role_tells G l VariableFormal h = sym h
+role_tells G l (GlobalSimple c) h = sym h
+role_tells G l (GlobalArray b n) h = sym h
+
+unfound : (ps : List (ℕ × ℕ)) (a : ℕ) → pick ps a ≡ None → found ps a ≡ 0
+unfound [] a h = refl
+unfound (p ∷ ps) a h = go (eqb p.0 a) (unfound ps a) h
+  where
+    go : (b : Bool) → (pick ps a ≡ None → found ps a ≡ 0) → ◌≡◌ {A = Option ℕ} (option_or (when b p.1) (pick ps a)) None → ◌≡◌ {A = ℕ} (elim b [ true ↦ p.1 | false ↦ found ps a ]) 0
+    go true i e = absurd (none_some p.1 (sym e))
+    go false i e = i e
+
+-- the declaration that is found tells what the name stands for
+pub standing_found : (k : Sought) (a : ℕ) (ls : List Line)
+    → standing_of (global_declared k a ls) ≡ (globals_of ls).names (found (known k (globals_of ls).scope) a)
+standing_found k a ls = go (global_declared k a ls) (globals_picked a k ls) (global_right_there ls k a)
+  where
+    G : Names
+    G = (globals_of ls).names
+
+    go : (o : Option Declaration) → pick (known k (globals_of ls).scope) a ≡ own_of o → Holds (λ d. RoleRight G d.line d.role) o
+        → standing_of o ≡ G (found (known k (globals_of ls).scope) a)
+    go None e h = sym (ap G (unfound (known k (globals_of ls).scope) a e) ∙ no_name ls)
+    go (Some d) e h = role_tells G d.line d.role h ∙ ap G (sym (found_pick (known k (globals_of ls).scope) a (own_name d.line d.role) e))

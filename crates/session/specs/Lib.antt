@@ -1,0 +1,4 @@
+pub mod Causes
+pub mod Globals
+pub mod Sessions
+pub mod States

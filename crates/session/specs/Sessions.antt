@@ -1,0 +1,75 @@
+-- What the calls of a session answer, and what they leave. The lines are those of the script that is opened; the words are those of the store that
+-- is handed to the call.
+use Rattle.std.specs.Prelude.{◌≡◌, ℕ, ◌<◌, ◌≤◌, Bool, cond, List, length, Some, None, Ok, Err, Option, Result, nat_lt, slice_set}
+use Rattle.std.specs.List.{slice_get}
+use Rattle.kinds.specs.Arithmetic.{Arithmetic}
+use Rattle.lines.specs.declared.records.Line.{Line}
+use Rattle.lines.specs.declared.records.Record.{Record}
+use Rattle.lines.specs.declared.refusals.Refusal.{Refusal}
+use Rattle.script.specs.Apart.{globals_of}
+use Rattle.acceptance.specs.Sheet.{lines_of}
+use Rattle.session.specs.declared.causes.SessionCause.{SessionCause}
+use Rattle.session.specs.declared.causes.SessionCause.TheVariants.{StoreTooSmall, UnlawfulGlobal, NotAtRest, NoSuchGlobal, UnlawfulWord, StoreFails}
+use Rattle.session.specs.declared.sessions.GlobalCell.{GlobalCell}
+use Rattle.session.specs.Causes.{refused}
+use Rattle.session.specs.Globals.{FirstUnlawful, Unlawful, cell_of}
+
+-- What a caller's place for a session holds: none, or one at rest, of the script with those records, with the size that the store had at the opening.
+pub data Held : Type 0 where
+  none : Held
+  at_rest : List Record → ℕ → Held
+
+-- ## Opening
+
+-- the opening of lines over a store is refused for that cause, with that line
+abbrev pub RefusesOpening : Arithmetic → List Line → List ℕ → SessionCause → ℕ → Type 0
+RefusesOpening K ls words StoreTooSmall n = (length words < (globals_of ls).taken) × (n ≡ 0)
+RefusesOpening K ls words UnlawfulGlobal n = ((globals_of ls).taken ≤ length words) × FirstUnlawful K ls words n
+RefusesOpening K ls words NotAtRest n = ⊥
+RefusesOpening K ls words NoSuchGlobal n = ⊥
+RefusesOpening K ls words UnlawfulWord n = ⊥
+RefusesOpening K ls words StoreFails n = ⊥
+
+-- The answer to an opening is right: the store holds all globals and no global an unlawful word; or it is refused, for the lowest line with an
+-- unlawful word if the store is large enough.
+abbrev pub Opens : Arithmetic → List Line → List ℕ → Result (Unit {0}) (Refusal SessionCause) → Type 0
+Opens K ls words (Ok _) = ((globals_of ls).taken ≤ length words) × ((n : ℕ) → ¬ (Unlawful K ls words n))
+Opens K ls words (Err r) = RefusesOpening K ls words r.cause r.line
+
+-- what the place holds then, whatever it held before
+abbrev pub after_opening : List Record → List ℕ → Result (Unit {0}) (Refusal SessionCause) → Held
+after_opening rs words (Ok _) = at_rest rs (length words)
+after_opening rs words (Err _) = none
+
+-- ## Post and reading
+
+-- a cell that has to be there
+abbrev pub or_no_global : Option ℕ → Result ℕ (Refusal SessionCause)
+or_no_global None = Err (refused NoSuchGlobal)
+or_no_global (Some c) = Ok c
+
+-- the cell of a global in a session at rest, or why there is none
+abbrev pub cell_in : Held → GlobalCell → Result ℕ (Refusal SessionCause)
+cell_in none g = Err (refused NotAtRest)
+cell_in (at_rest rs size) g = or_no_global (cell_of (lines_of rs) g)
+
+module _ (K : Arithmetic) (words : List ℕ) where
+  -- a post of the word w into a cell
+  abbrev pub post_into : ℕ → Result ℕ (Refusal SessionCause) → Result (Unit {0}) (Refusal SessionCause)
+  post_into w (Err r) = Err r
+  post_into w (Ok c) = cond (K.lawful w) (cond (nat_lt c (length words)) (Ok tt) (Err (refused StoreFails))) (Err (refused UnlawfulWord))
+
+  -- the word of a cell: the store has to have the cell, and the word to be lawful
+  abbrev pub lawful_word : Option ℕ → Result ℕ (Refusal SessionCause)
+  lawful_word None = Err (refused StoreFails)
+  lawful_word (Some w) = cond (K.lawful w) (Ok w) (Err (refused StoreFails))
+
+  abbrev pub reading_of : Result ℕ (Refusal SessionCause) → Result ℕ (Refusal SessionCause)
+  reading_of (Err r) = Err r
+  reading_of (Ok c) = lawful_word (slice_get words c)
+
+-- the words after a post of w that got an answer: an accepted one sets the global's cell
+abbrev pub after_post : List ℕ → Result ℕ (Refusal SessionCause) → ℕ → Result (Unit {0}) (Refusal SessionCause) → List ℕ
+after_post words (Ok c) w (Ok _) = slice_set words c w
+after_post words (Ok c) w (Err _) = words
+after_post words (Err r) w a = words
