@@ -14,9 +14,11 @@ use Rattle.script.proofs.Lists.{each_left, each_right}
 use Rattle.standing.specs.Records.{RoleRight, own_name}
 use Rattle.acceptance.specs.declared.declared.Sought.{Sought}
 use Rattle.acceptance.specs.declared.declared.Sought.TheVariants.{Simple, Array}
+use Rattle.acceptance.specs.declared.globals.GlobalSort.{GlobalSort}
+use Rattle.acceptance.specs.declared.globals.GlobalSort.TheVariants as Sort
 use Rattle.acceptance.specs.Sheet.{lines_of}
 use Rattle.acceptance.specs.Scopes.{Entry, cells_of, global_declared, global_entries, global_entry, when}
-use Rattle.acceptance.specs.Scripts.{cells_told, standing_of}
+use Rattle.acceptance.specs.Scripts.{cells_told, global_standing, standing_of}
 use Rattle.acceptance.proofs.Innermost.{found_pick, globals_picked, known, none_some, own_of, pick}
 use Rattle.acceptance.proofs.Listing.{heads_more, heads_stop}
 use Rattle.acceptance.proofs.Roles.{Holds, Right, global_right_there, globals_right, no_name, taken_more}
@@ -127,3 +129,29 @@ standing_found k a ls = go (global_declared k a ls) (globals_picked a k ls) (glo
         → standing_of o ≡ G (found (known k (globals_of ls).scope) a)
     go None e h = sym (ap G (unfound (known k (globals_of ls).scope) a e) ∙ no_name ls)
     go (Some d) e h = role_tells G d.line d.role h ∙ ap G (sym (found_pick (known k (globals_of ls).scope) a (own_name d.line d.role) e))
+
+-- and that is what some line's own name stands for: 0 is no line's, and stands for nothing
+module _ (ls : List Line) (a : ℕ) where
+  abbrev Q : Names
+  Q = (globals_of ls).names
+
+  by_role : (l : ℕ) (r : Role) → RoleRight Q l r → (n : ℕ) × (Q (own_name l r) ≡ Q (own n))
+  by_role l Declared h = (l, refl)
+  by_role l ValueFormal h = (0, h ∙ sym (no_name ls))
+  by_role l VariableFormal h = (0, h ∙ sym (no_name ls))
+  by_role l (GlobalSimple c) h = (l, refl)
+  by_role l (GlobalArray b n) h = (l, refl)
+
+  own_found : (k : Sought) → (n : ℕ) × (Q (found (known k (globals_of ls).scope) a) ≡ Q (own n))
+  own_found k = go (global_declared k a ls) (globals_picked a k ls) (global_right_there ls k a)
+    where
+      go : (o : Option Declaration) → pick (known k (globals_of ls).scope) a ≡ own_of o → Holds (λ d. RoleRight Q d.line d.role) o
+          → (n : ℕ) × (Q (found (known k (globals_of ls).scope) a) ≡ Q (own n))
+      go None e h = (0, ap Q (unfound (known k (globals_of ls).scope) a e))
+      go (Some d) e h =
+          let w = by_role d.line d.role h in
+          (w.0, ap Q (found_pick (known k (globals_of ls).scope) a (own_name d.line d.role) e) ∙ w.1)
+
+  pub standing_own : (s : GlobalSort) → (n : ℕ) × (global_standing ls s a ≡ Q (own n))
+  standing_own Sort.Simple = own_found Simple
+  standing_own Sort.Array = own_found Array

@@ -6,22 +6,13 @@ mod words;
 use acceptance::scripts::read_script;
 use account::kinds_of_line::count_kind;
 use account::printable::printable_part;
+use card_input::read_card;
 use kinds::{NumberKind, Single, Whole};
 use lines::records::{Line, Name, Record};
-use sheet::reader::{MOST_BYTES, MOST_LINES, read_lines};
-use std::io::Read;
+use sheet::reader::{MOST_LINES, read_lines};
 use std::str::from_utf8;
 use text::lines::line_text;
 use words::KINDS;
-
-// The card's bytes: one past the most that a sheet may have is enough to refuse it.
-fn read_card(rt: &(impl Input + AllocGlobal)) -> anyhow::Result<Vec<u8>> {
-    let mut bytes = Vec::new(rt.alloc());
-    rt.reader()
-        .take(MOST_BYTES as u64 + 1)
-        .read_to_end(&mut bytes)?;
-    Ok(bytes)
-}
 
 // What the lines say.
 fn tell_lines(rt: &impl Print, records: &[Record]) -> anyhow::Result<()> {

@@ -15,7 +15,7 @@ one_sits n a zero g h = only_sits (g.taken + 1) (own n) (cell g.taken) g.names (
 one_sits n a (suc k) g h =
     only_sits (g.taken + suc k) (own n) (cells g.taken (suc k)) g.names (le_refl (g.taken + suc k)) (λ z. sits_more g.taken (g.taken + suc k) (omega arith) (g.names z) (h z))
 
-all_sit : (n : ℕ) (ps : List (ℕ × ℕ)) (g : Globals) → ((z : ℕ) → Sits g.taken (g.names z)) → (z : ℕ) → Sits (globals_from n ps g).taken ((globals_from n ps g).names z)
+pub all_sit : (n : ℕ) (ps : List (ℕ × ℕ)) (g : Globals) → ((z : ℕ) → Sits g.taken (g.names z)) → (z : ℕ) → Sits (globals_from n ps g).taken ((globals_from n ps g).names z)
 all_sit n [] g h = h
 all_sit n (p ∷ ps) g h = all_sit (suc n) ps (global_of n p.0 p.1 g) (one_sits n p.0 p.1 g h)
 

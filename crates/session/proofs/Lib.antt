@@ -1,2 +1,3 @@
 pub mod Passing
 pub mod Opened
+pub mod Histories

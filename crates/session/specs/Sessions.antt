@@ -53,20 +53,20 @@ abbrev pub cell_in : Held → GlobalCell → Result ℕ (Refusal SessionCause)
 cell_in none g = Err (refused NotAtRest)
 cell_in (at_rest rs size) g = or_no_global (cell_of (lines_of rs) g)
 
+-- the word of a cell: the store has to have the cell, and the word to be lawful
+abbrev pub lawful_word : Arithmetic → Option ℕ → Result ℕ (Refusal SessionCause)
+lawful_word K None = Err (refused StoreFails)
+lawful_word K (Some w) = cond (K.lawful w) (Ok w) (Err (refused StoreFails))
+
 module _ (K : Arithmetic) (words : List ℕ) where
   -- a post of the word w into a cell
   abbrev pub post_into : ℕ → Result ℕ (Refusal SessionCause) → Result (Unit {0}) (Refusal SessionCause)
   post_into w (Err r) = Err r
   post_into w (Ok c) = cond (K.lawful w) (cond (nat_lt c (length words)) (Ok tt) (Err (refused StoreFails))) (Err (refused UnlawfulWord))
 
-  -- the word of a cell: the store has to have the cell, and the word to be lawful
-  abbrev pub lawful_word : Option ℕ → Result ℕ (Refusal SessionCause)
-  lawful_word None = Err (refused StoreFails)
-  lawful_word (Some w) = cond (K.lawful w) (Ok w) (Err (refused StoreFails))
-
   abbrev pub reading_of : Result ℕ (Refusal SessionCause) → Result ℕ (Refusal SessionCause)
   reading_of (Err r) = Err r
-  reading_of (Ok c) = lawful_word (slice_get words c)
+  reading_of (Ok c) = lawful_word K (slice_get words c)
 
 -- the words after a post of w that got an answer: an accepted one sets the global's cell
 abbrev pub after_post : List ℕ → Result ℕ (Refusal SessionCause) → ℕ → Result (Unit {0}) (Refusal SessionCause) → List ℕ

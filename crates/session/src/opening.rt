@@ -27,7 +27,10 @@ fn unlawful_cell<K: NumberKind, S: Store>(store: &S, first: u32, count: u32) -> 
 }
 
 // The line of the first global with an unlawful word.
-pub(crate) fn first_unlawful<K: NumberKind, S: Store>(records: &[Record], store: &S) -> Option<usize>
+pub(crate) fn first_unlawful<K: NumberKind, S: Store>(
+    records: &[Record],
+    store: &S,
+) -> Option<usize>
     requires few { length records.now ≤ 2048 }
     requires room { (globals_of (lines_of records.now)).taken ≤ length (S.Store.words store.now) }
     ensures { MatchOption result ((n : ℕ) → ¬ (Unlawful K.kind (lines_of records.now) (S.Store.words store.now) n)) (FirstUnlawful K.kind (lines_of records.now) (S.Store.words store.now)) }

@@ -58,7 +58,11 @@ impl<'s, 'r, K: NumberKind> Session<'s, 'r, K> {
     }
 
     // Opens a script over a store. The place then holds the session, or none where it is refused, whatever it held.
-    pub fn open<S: Store>(&mut self, script: &'s Script<'r, K>, store: &S) -> Result<(), Refusal<SessionCause>>
+    pub fn open<S: Store>(
+        &mut self,
+        script: &'s Script<'r, K>,
+        store: &S,
+    ) -> Result<(), Refusal<SessionCause>>
         ensures answer { Opens K.kind (lines_of script.now) (S.Store.words store.now) result }
         ensures only { (s : Result (Unit {0}) (Refusal SessionCause)) → Opens K.kind (lines_of script.now) (S.Store.words store.now) s → s ≡ result }
         ensures session { self.new ≡ after_opening script.now (S.Store.words store.now) result }
@@ -88,16 +92,25 @@ impl<'s, 'r, K: NumberKind> Session<'s, 'r, K> {
             return Err(SessionCause::NotAtRest.refusal());
         };
         let no_such_global = SessionCause::NoSuchGlobal.refusal();
-        let declared = script.global(global.sort, global.name).ok_or(no_such_global)?;
+        let declared = script
+            .global(global.sort, global.name)
+            .ok_or(no_such_global)?;
         match declared.role {
             Role::GlobalSimple { cell } if global.index == 0 => Ok(cell as usize),
-            Role::GlobalArray { first, length } if global.index < length => Ok(first as usize + global.index as usize),
+            Role::GlobalArray { first, length } if global.index < length => Ok(
+                first as usize + global.index as usize,
+            ),
             _ => Err(no_such_global),
         }
     }
 
     // Puts a word into a global.
-    pub fn post<S: Store>(&self, store: &mut S, global: GlobalCell, word: u32) -> Result<(), Refusal<SessionCause>>
+    pub fn post<S: Store>(
+        &self,
+        store: &mut S,
+        global: GlobalCell,
+        word: u32,
+    ) -> Result<(), Refusal<SessionCause>>
         ensures answer { result ≡ post_into K.kind (S.Store.words store.old) word (cell_in self.now global) }
         ensures words { S.Store.words store.new ≡ after_post (S.Store.words store.old) (cell_in self.now global) word result }
         ensures lent { S.Store.lent store.new ≡ S.Store.lent store.old }
@@ -113,7 +126,11 @@ impl<'s, 'r, K: NumberKind> Session<'s, 'r, K> {
     }
 
     // The word of a global.
-    pub fn reading<S: Store>(&self, store: &S, global: GlobalCell) -> Result<u32, Refusal<SessionCause>>
+    pub fn reading<S: Store>(
+        &self,
+        store: &S,
+        global: GlobalCell,
+    ) -> Result<u32, Refusal<SessionCause>>
         ensures { result ≡ reading_of K.kind (S.Store.words store.now) (cell_in self.now global) }
     {
         let cell = self.cell(global)?;

@@ -43,7 +43,7 @@ pub stands_more :
 stands_more words before now qs i d h e n = n ∙ ap (λ ws. after ws (get_or qs i d)) e ∙ sym (after_more words qs i d h)
 
 -- the next of a list of values, written behind those before it
-next_written :
+pub next_written :
     {X : Type 0} (front old : List X) (i : ℕ) (x : X)
     → length front ≡ i
     → i < length old

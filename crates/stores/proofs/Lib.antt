@@ -1,4 +1,4 @@
-mod Accessing
+pub mod Accessing
 mod Capped
 mod Imaging
 pub mod Memory

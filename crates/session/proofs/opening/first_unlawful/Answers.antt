@@ -16,8 +16,8 @@ loop-index-preserved g c =
     let count = c.cells_of-count.ensures.is in
     subst (λ n. Passed K c.args.records.now words (c.loop-index.index + 1) (c.loop-index.first + n)) (sym count)
     (passed_more K c.args.records.now words c.loop-index.index c.loop-index.first c.loop-index.invariant blank c.loop-index-test.true
-      c.in-Global.name c.in-Global.length c.in-Global.is (subst (λ n. n ≤ 65535) count c.cells_of-count.ensures.few)
-      (subst (λ n. Lawful K words c.loop-index.first (c.loop-index.first + n)) count c.in-None.ensures))
+    c.in-Global.name c.in-Global.length c.in-Global.is (subst (λ n. n ≤ 65535) count c.cells_of-count.ensures.few)
+    (subst (λ n. Lawful K words c.loop-index.first (c.loop-index.first + n)) count c.in-None.ensures))
 
 pub returns-in_default-unlawful_cell : goal.returns-in_default-unlawful_cell
 returns-in_default-unlawful_cell g c =
@@ -26,8 +26,8 @@ returns-in_default-unlawful_cell g c =
     let p = c.loop-index.invariant in
     let found = c.in_default-unlawful_cell.ensures in (
       unlawful_here K c.args.records.now words c.loop-index.index c.loop-index.first p blank c.loop-index-test.true
-      c.in-Global.name c.in-Global.length c.in-Global.is c.in_default-unlawful_cell.field-0 found.0
-      (subst (λ n. c.in_default-unlawful_cell.field-0 < c.loop-index.first + n) c.cells_of-count.ensures.is found.1) found.2,
+          c.in-Global.name c.in-Global.length c.in-Global.is c.in_default-unlawful_cell.field-0 found.0
+          (subst (λ n. c.in_default-unlawful_cell.field-0 < c.loop-index.first + n) c.cells_of-count.ensures.is found.1) found.2,
       λ m q. p.lawful m (omega (arith, q)),
     )
 
