@@ -4,7 +4,7 @@ use Rattle.script.specs.Names.{cell, cells}
 use Rattle.script.specs.Apart.{Globals, global_of, globals_from, globals_of, heads, no_globals, own, first_fresh, statement_apart}
 use Rattle.rule.specs.Rewriting.{Halt, rewrite}
 use Rattle.rule.specs.Machine.{outside, machine}
-use Rattle.rule.specs.Closing.{own_fetch, program_of, start}
+use Rattle.rule.specs.Closing.{own_fetch, own_room, program_of, start}
 use Rattle.rule.specs.Local.{Sits, SameHalt, GlobalsSuffice}
 use Rattle.rule.proofs.Local.{only_sits, sits_more, runs_locally}
 use Rattle.rule.proofs.Accepted.{accepted_agrees}
@@ -26,4 +26,4 @@ globals_suffice K size low high ls few s n σ τ e =
     let m = runs_locally K size (globals_of ls).names u (all_sit 1 (heads ls) no_globals (λ z. tt)) n u items σ τ (le_refl u, tt, le_refl u) e in
     let run : List ℕ → Halt = λ store. rewrite K size own_fetch n (start (program_of ls s.text)) (record { names = (globals_of ls).names; fresh = first_fresh; store = store }) in
     subst (λ (h : Halt). SameHalt u h (run τ)) (accepted_agrees K size own_fetch low high ls few s n 0 u σ)
-    (subst (λ (h : Halt). SameHalt u (machine K size own_fetch (globals_of ls).names n items σ) h) (accepted_agrees K size own_fetch low high ls few s n 0 u τ) m)
+    (subst (λ (h : Halt). SameHalt u (machine K size own_fetch own_room (globals_of ls).names n items σ) h) (accepted_agrees K size own_fetch low high ls few s n 0 u τ) m)

@@ -1,5 +1,5 @@
 -- What a run of a script comes to: its closing by the copy rule, and the rule's own count.
-use Rattle.std.specs.Prelude.{◌≡◌, ℕ, ◌-◌, ◌<◌, ◌≤◌, List, [], ◌∷◌, ◌++◌, take, replicate, slice_index}
+use Rattle.std.specs.Prelude.{◌≡◌, ℕ, ◌-◌, ◌<◌, ◌≤◌, Bool, true, List, [], ◌∷◌, ◌++◌, take, replicate, slice_index}
 use Rattle.kinds.specs.Arithmetic.{Arithmetic}
 use Rattle.script.specs.Script.{Statement}
 use Rattle.lines.specs.declared.records.Line.{Line}
@@ -23,9 +23,12 @@ pub record Closing : Type 0 where
   pub count : ℕ
   pub globals : List ℕ
 
--- the rule's own store: every place that it looks at is there
+-- the rule's own store: every place that it looks at is there, and takes every put
 abbrev pub own_fetch : List ℕ → ℕ → Work ℕ
 own_fetch σ c = gives (slice_index σ c)
+
+abbrev pub own_room : List ℕ → ℕ → Bool
+own_room σ u = true
 
 -- a run starts with the whole text at level 0, the globals' cells in use
 abbrev pub start : Program → List Pending

@@ -26,12 +26,12 @@ pub fn machine_agrees()
     ensures { MachineAgrees }
 {}
 
-// and so on every script, for every kind, size, allowance and store.
+// and so on every script, for every kind, size, allowance and store that takes every put.
 pub fn accepted_agrees()
     ensures { AcceptedAgrees }
 {}
 
-// Running n statements and then m more is running n + m.
+// Running n statements and then m more is running n + m, for the machine over every store.
 pub fn resumes()
     ensures { Resumes }
 {}
