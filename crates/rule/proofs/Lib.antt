@@ -8,4 +8,5 @@ pub mod InOrder
 pub mod Accepted
 pub mod Resume
 pub mod Local
+pub mod Tidy
 pub mod Inner

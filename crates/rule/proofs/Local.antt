@@ -5,6 +5,8 @@ use Rattle.rule.specs.Work.{Work, gives, faults, next}
 use Rattle.script.specs.Script.{Place, simple, element, fixed, Expression, constant, word_of, work, choose, Condition, truth, compared, negated, implies}
 use Rattle.script.specs.Script.{Statement, assign, both, branch, call, new_simple, new_array, system, Declarations, procedure, joined, only}
 use Rattle.script.specs.Names.{Names, Standing, nothing, cell, cells, code}
+use Rattle.script.specs.Apart.{Globals, global_of, globals_from, globals_of, heads, no_globals, own}
+use Rattle.lines.specs.declared.records.Line.{Line}
 use Rattle.rule.specs.Values.{cell_of, element_of, within, indexed, material, operate, compare, cell_at, value, holds}
 use Rattle.rule.specs.Rewriting.{cleared, Ending, finished, stopped, fault}
 use Rattle.rule.specs.Machine.{Env, outside, simple_in, array_in, system_in, Found, unknown, closure, among, procedure_at, standing, Item, Moved, moves, refuses, tried, deeper, enters, move, machine}
@@ -142,6 +144,19 @@ sits_more u v h nothing k = tt
 sits_more u v h (cell c) k = omega arith
 sits_more u v h (cells b n) k = omega arith
 sits_more u v h (code x y s) k = tt
+
+-- the globals' names stand for cells below those that are taken
+one_sits : (n a b : ℕ) (g : Globals) → ((z : ℕ) → Sits g.taken (g.names z)) → (z : ℕ) → Sits (global_of n a b g).taken ((global_of n a b g).names z)
+one_sits n a zero g h = only_sits (g.taken + 1) (own n) (cell g.taken) g.names (omega arith) (λ z. sits_more g.taken (g.taken + 1) (omega arith) (g.names z) (h z))
+one_sits n a (suc k) g h =
+    only_sits (g.taken + suc k) (own n) (cells g.taken (suc k)) g.names (le_refl (g.taken + suc k)) (λ z. sits_more g.taken (g.taken + suc k) (omega arith) (g.names z) (h z))
+
+all_sit : (n : ℕ) (ps : List (ℕ × ℕ)) (g : Globals) → ((z : ℕ) → Sits g.taken (g.names z)) → (z : ℕ) → Sits (globals_from n ps g).taken ((globals_from n ps g).names z)
+all_sit n [] g h = h
+all_sit n (p ∷ ps) g h = all_sit (suc n) ps (global_of n p.0 p.1 g) (one_sits n p.0 p.1 g h)
+
+pub globals_sit : (ls : List Line) (z : ℕ) → Sits (globals_of ls).taken ((globals_of ls).names z)
+globals_sit ls = all_sit 1 (heads ls) no_globals (λ z. tt)
 
 pub standing_sits : (G : Names) (u : ℕ) → ((z : ℕ) → Sits u (G z)) → (ρ : Env) → Bounded ρ u → (z : ℕ) → Sits u (standing G ρ z)
 standing_sits G u h outside b = h

@@ -63,7 +63,20 @@ module _ (K : Arithmetic) (size : ℕ) (fetch : List ℕ → ℕ → Work ℕ) w
         go (moves qs σ') = refl
         go (refuses f l σ') = refl
 
-    by_machine : (n : ℕ) (ps : List Item) (σ : List ℕ) → machine K size fetch room G n ps σ ≡ halted (λ x. x) (advance (machine_step K size fetch room G) n ps σ)
+    abbrev pub onto : ℕ → List Item → Moved → Reached Item (List ℕ)
+    onto n ps (moves qs σ') = advance (machine_step K size fetch room G) n (qs ++ ps) σ'
+    onto n ps (refuses f l σ') = ended (fault f l) n σ'
+
+    pub comes_to : (n : ℕ) (p : Item) (ps : List Item) (σ : List ℕ)
+        → advance (machine_step K size fetch room G) (suc n) (p ∷ ps) σ ≡ onto n ps (move K size fetch room G p.text p.level p.used p.env σ)
+    comes_to n p ps σ = go (move K size fetch room G p.text p.level p.used p.env σ)
+      where
+        go : (b : Moved) → elim (elim b as (λ _. Step Item (List ℕ)) [ moves qs σ' ↦ goes_to qs σ' | refuses f l σ' ↦ fails_at f l σ' ])
+            [ goes_to qs σ' ↦ advance (machine_step K size fetch room G) n (qs ++ ps) σ' | fails_at f l σ' ↦ ended (fault f l) n σ' ] ≡ onto n ps b
+        go (moves qs σ') = refl
+        go (refuses f l σ') = refl
+
+    pub by_machine : (n : ℕ) (ps : List Item) (σ : List ℕ) → machine K size fetch room G n ps σ ≡ halted (λ x. x) (advance (machine_step K size fetch room G) n ps σ)
     by_machine zero [] σ = refl
     by_machine zero (p ∷ ps) σ = refl
     by_machine (suc n) [] σ = refl

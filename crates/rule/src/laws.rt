@@ -5,6 +5,7 @@ ghost use Rattle.rule.specs.Fine.{MachineAgrees};
 ghost use Rattle.rule.specs.Laws.{Agrees};
 ghost use Rattle.rule.specs.Local.{GlobalsSuffice, Local};
 ghost use Rattle.rule.specs.Resume.{Resumes};
+ghost use Rattle.rule.specs.Tidy.{NumbersFit, StaysTidy};
 
 // A run by the rule always has exactly one outcome, and rewriting the text that is left gives it.
 pub fn rule_agrees()
@@ -44,4 +45,14 @@ pub fn runs_locally()
 // and so a script's run by the rule depends on the globals alone, whatever the other cells hold.
 pub fn globals_suffice()
     ensures { GlobalsSuffice }
+{}
+
+// What waits in a machine's run is at falling levels up to 512, so there are at most 513 statements of it, with cells in use that the size has,
+pub fn stays_tidy()
+    ensures { StaysTidy }
+{}
+
+// and so it is in every run of a sheet's text.
+pub fn numbers_fit()
+    ensures { NumbersFit }
 {}
