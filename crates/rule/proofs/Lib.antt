@@ -9,4 +9,5 @@ pub mod Accepted
 pub mod Resume
 pub mod Local
 pub mod Tidy
+pub mod Lawful
 pub mod Inner

@@ -11,3 +11,4 @@ pub mod Agreement
 pub mod Resume
 pub mod Local
 pub mod Tidy
+pub mod Lawful

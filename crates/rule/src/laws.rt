@@ -3,6 +3,7 @@ ghost use Rattle.rule.specs.Agreement.{AcceptedAgrees};
 ghost use Rattle.rule.specs.Count.{Counted, Stays};
 ghost use Rattle.rule.specs.Fine.{MachineAgrees};
 ghost use Rattle.rule.specs.Laws.{Agrees};
+ghost use Rattle.rule.specs.Lawful.{StaysLawful};
 ghost use Rattle.rule.specs.Local.{GlobalsSuffice, Local};
 ghost use Rattle.rule.specs.Resume.{Resumes};
 ghost use Rattle.rule.specs.Tidy.{NumbersFit, StaysTidy};
@@ -55,4 +56,9 @@ pub fn stays_tidy()
 // and so it is in every run of a sheet's text.
 pub fn numbers_fit()
     ensures { NumbersFit }
+{}
+
+// From lawful words in the globals' cells, a script's run keeps lawful words in the cells in use, and works lawful values only.
+pub fn stays_lawful()
+    ensures { StaysLawful }
 {}
