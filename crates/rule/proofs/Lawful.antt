@@ -1,10 +1,10 @@
 -- A kind's operations on lawful words give lawful words, and so words stay lawful in a machine's run.
-use Rattle.std.proofs.Common.{◌≡◌, ℕ, zero, suc, ◌+◌, ◌<◌, ◌≤◌, Bool, true, false, T, eqb, ltb, leb, List, [], ◌∷◌, ◌++◌, length, get_or, take, set, sym, refl, ap, ◌∙◌, subst, le_trans, le_refl, add-zero, add-suc, suc-add, add-one, arith, Ok, Err, Result}
+use Rattle.std.proofs.Common.{ℕ, zero, suc, ◌+◌, ◌<◌, ◌≤◌, Bool, true, false, eqb, ltb, leb, List, [], ◌∷◌, ◌++◌, length, get_or, take, set, sym, ◌∙◌, subst, le_trans, le_refl, add-zero, add-suc, suc-add, add-one, arith, Ok, Err, Result}
 use Rattle.kinds.specs.declared.fault.ArithmeticFault.{ArithmeticFault}
 use Rattle.kinds.specs.Arithmetic.{Arithmetic, Laws, LawfulResult}
 use Rattle.lines.specs.declared.sorts.Operator.{Operator}
 use Rattle.lines.specs.declared.sorts.Operator.TheVariants.{Plus, Minus, Times, Over}
-use Rattle.script.specs.Script.{Place, simple, element, fixed, Expression, constant, word_of, work, choose, Condition, truth, compared, negated, implies}
+use Rattle.script.specs.Script.{Expression, constant, word_of, work, choose}
 use Rattle.script.specs.Script.{Statement, assign, both, branch, call, new_simple, new_array, system, Declarations, procedure, joined}
 use Rattle.script.specs.Names.{Names}
 use Rattle.script.specs.Apart.{globals_of}
@@ -12,15 +12,16 @@ use Rattle.script.specs.Lists.{Each}
 use Rattle.script.proofs.Lists.{each_append}
 use Rattle.rule.specs.Work.{Work, gives, faults, next, of_kind}
 use Rattle.rule.specs.Values.{operate, value, cell_at, holds}
-use Rattle.rule.specs.Rewriting.{cleared, fault}
+use Rattle.rule.specs.Rewriting.{cleared}
 use Rattle.rule.specs.Machine.{Env, outside, simple_in, array_in, system_in, Found, unknown, closure, among, procedure_at, standing, Item, Moved, moves, refuses, tried, deeper, stored, enters, move}
-use Rattle.rule.specs.Closing.{own_fetch, program_of, first_items}
+use Rattle.rule.specs.Closing.{program_of, first_items}
 use Rattle.rule.specs.Local.{Sits, Bounded}
-use Rattle.rule.specs.Resume.{Reached, going, ended, advance, machine_step}
+use Rattle.rule.specs.Resume.{advance, machine_step}
 use Rattle.rule.specs.Tidy.{Tidy}
-use Rattle.rule.specs.Lawful.{StaysLawful, LawfulWord, LawfulWork, LawfulBelow, LawfulPlace, LawfulExpression, LawfulCondition, LawfulText, LawfulDeclarations, ReadsLawfully, LawfulAt, LawfulState}
+use Rattle.rule.specs.Lawful.{StaysLawful, LawfulWord, LawfulWork, LawfulBelow, LawfulExpression, LawfulText, LawfulDeclarations, ReadsLawfully, LawfulAt, LawfulState}
 use Rattle.rule.proofs.Local.{Below, place_below, globals_sit}
 use Rattle.rule.proofs.Resume.{onto, comes_to}
+use Rattle.rule.proofs.Constants.{script_lawful}
 use Rattle.rule.proofs.Tidy.{in_use, Kept, move_kept, first_tidy}
 
 -- the words of the cells below u
@@ -251,4 +252,4 @@ module _ (K : Arithmetic) (L : Laws K) (taken size : ℕ) (fetch : List ℕ → 
 pub stays_lawful : StaysLawful
 stays_lawful K L size fetch room reads ls s h n σ long words =
     stays K L (globals_of ls).taken size fetch reads room (globals_of ls).names (globals_sit ls) n (first_items (program_of ls s.text)) σ
-    (record { tidy = first_tidy ls s.text size h; items = ((?, tt), tt); words = words; long = long })
+    (record { tidy = first_tidy ls s.text size h; items = ((script_lawful K L ls s, tt), tt); words = words; long = long })

@@ -9,5 +9,6 @@ pub mod Accepted
 pub mod Resume
 pub mod Local
 pub mod Tidy
+pub mod Constants
 pub mod Lawful
 pub mod Inner
