@@ -11,4 +11,5 @@ pub mod Local
 pub mod Tidy
 pub mod Constants
 pub mod Lawful
+pub mod Handed
 pub mod Inner

@@ -115,18 +115,18 @@ module _ (K : Arithmetic) (E : Names) (u : ℕ) (sits : (z : ℕ) → Sits u (E 
     fetched (faults n) h = refl
 
     mutual
-      same_cell : (p : Place) → cell_at K E f p ≡ cell_at K E g p
+      pub same_cell : (p : Place) → cell_at K E f p ≡ cell_at K E g p
       same_cell (simple x) = refl
       same_cell (element a i) = λ j. next (same_value i j) (λ w. next (indexed (K.index w)) (element_of (E a)))
       same_cell (fixed a i) = refl
 
-      same_value : (e : Expression) → value K E f e ≡ value K E g e
+      pub same_value : (e : Expression) → value K E f e ≡ value K E g e
       same_value (constant n) = refl
       same_value (word_of p) = ap (λ (w : Work ℕ). next w f) (same_cell p) ∙ fetched (cell_at K E g p) (place_below g p)
       same_value (work o a b) = λ j. next (same_value a j) (λ v. next (same_value b j) (operate K o v))
       same_value (choose c a b) = λ j. let x = same_value a j in let y = same_value b j in next (same_truth c j) (λ t. elim t [ true ↦ x | false ↦ y ])
 
-      same_truth : (c : Condition) → holds K E f c ≡ holds K E g c
+      pub same_truth : (c : Condition) → holds K E f c ≡ holds K E g c
       same_truth (truth b) = refl
       same_truth (compared r a b) = λ j. next (same_value a j) (λ v. next (same_value b j) (λ w. gives (compare K r v w)))
       same_truth (negated c) = λ j. next (same_truth c j) (λ t. gives (not t))

@@ -12,3 +12,4 @@ pub mod Resume
 pub mod Local
 pub mod Tidy
 pub mod Lawful
+pub mod Handed

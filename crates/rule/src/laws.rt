@@ -3,6 +3,7 @@ ghost use Rattle.rule.specs.Agreement.{AcceptedAgrees};
 ghost use Rattle.rule.specs.Count.{Counted, Stays};
 ghost use Rattle.rule.specs.Fine.{MachineAgrees};
 ghost use Rattle.rule.specs.Laws.{Agrees};
+ghost use Rattle.rule.specs.Handed.{HandedOver, StoresReadLawfully};
 ghost use Rattle.rule.specs.Lawful.{StaysLawful};
 ghost use Rattle.rule.specs.Local.{GlobalsSuffice, Local};
 ghost use Rattle.rule.specs.Resume.{Resumes};
@@ -61,4 +62,14 @@ pub fn numbers_fit()
 // From lawful words in the globals' cells, a script's run keeps lawful words in the cells in use, and works lawful values only.
 pub fn stays_lawful()
     ensures { StaysLawful }
+{}
+
+// Neither the store that is handed over nor the rule's own makes an unlawful word of lawful ones;
+pub fn stores_read_lawfully()
+    ensures { StoresReadLawfully }
+{}
+
+// and so, from lawful words in the globals' cells, a script runs over the one as over the other.
+pub fn handed_over()
+    ensures { HandedOver }
 {}
