@@ -13,7 +13,7 @@ use Rattle.rule.specs.Machine.{outside, machine}
 use Rattle.rule.specs.Closing.{own_room}
 
 module _ (K : Arithmetic) (size : ℕ) (fetch : List ℕ → ℕ → Work ℕ) (ls : List Line) (t : Statement) where
-  -- from every store, with every allowance, both come to the same halt
+  -- from every store, with every allowance, both come to the same halt, where every put is taken
   abbrev pub GoTogether : Type 0
   GoTogether = (n level used : ℕ) (σ : List ℕ)
       → machine K size fetch own_room (globals_of ls).names n
@@ -27,7 +27,7 @@ ToldAgrees = (K : Arithmetic) (size : ℕ) (fetch : List ℕ → ℕ → Work �
     → Scoped (globals_of ls).scope t → EachOnce (declaring_lines t) → Each (λ l. (past_globals ls ≤ l) × (l < 2049)) (declaring_lines t)
     → GoTogether K size fetch ls t
 
--- every script of at most 2,048 lines, for every kind, size and store
+-- every script of at most 2,048 lines, for every kind, size and store that takes every put
 abbrev pub AcceptedAgrees : Type 0
 AcceptedAgrees = (K : Arithmetic) (size : ℕ) (fetch : List ℕ → ℕ → Work ℕ) (low high : ℤ) (ls : List Line) → length ls ≤ 2048
     → (s : IsScript low high ls) → GoTogether K size fetch ls s.text

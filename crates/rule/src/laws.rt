@@ -2,8 +2,8 @@
 ghost use Rattle.rule.specs.Agreement.{AcceptedAgrees};
 ghost use Rattle.rule.specs.Count.{Counted, Stays};
 ghost use Rattle.rule.specs.Fine.{MachineAgrees};
-ghost use Rattle.rule.specs.Laws.{Agrees};
 ghost use Rattle.rule.specs.Handed.{HandedOver, StoresReadLawfully};
+ghost use Rattle.rule.specs.Laws.{Agrees};
 ghost use Rattle.rule.specs.Lawful.{StaysLawful};
 ghost use Rattle.rule.specs.Local.{GlobalsSuffice, Local};
 ghost use Rattle.rule.specs.Resume.{Resumes};
