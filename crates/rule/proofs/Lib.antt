@@ -8,4 +8,8 @@ pub mod InOrder
 pub mod Accepted
 pub mod Resume
 pub mod Local
+pub mod Tidy
+pub mod Constants
+pub mod Lawful
+pub mod Handed
 pub mod Inner

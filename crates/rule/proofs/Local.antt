@@ -5,10 +5,12 @@ use Rattle.rule.specs.Work.{Work, gives, faults, next}
 use Rattle.script.specs.Script.{Place, simple, element, fixed, Expression, constant, word_of, work, choose, Condition, truth, compared, negated, implies}
 use Rattle.script.specs.Script.{Statement, assign, both, branch, call, new_simple, new_array, system, Declarations, procedure, joined, only}
 use Rattle.script.specs.Names.{Names, Standing, nothing, cell, cells, code}
+use Rattle.script.specs.Apart.{Globals, global_of, globals_from, globals_of, heads, no_globals, own}
+use Rattle.lines.specs.declared.records.Line.{Line}
 use Rattle.rule.specs.Values.{cell_of, element_of, within, indexed, material, operate, compare, cell_at, value, holds}
 use Rattle.rule.specs.Rewriting.{cleared, Ending, finished, stopped, fault}
 use Rattle.rule.specs.Machine.{Env, outside, simple_in, array_in, system_in, Found, unknown, closure, among, procedure_at, standing, Item, Moved, moves, refuses, tried, deeper, enters, move, machine}
-use Rattle.rule.specs.Closing.{own_fetch}
+use Rattle.rule.specs.Closing.{own_fetch, own_room}
 use Rattle.rule.specs.Local.{Sits, Bounded, Orderly, Agree, SameHalt, Local}
 use Rattle.rule.proofs.Resume.{runs_on, onward}
 
@@ -113,18 +115,18 @@ module _ (K : Arithmetic) (E : Names) (u : ℕ) (sits : (z : ℕ) → Sits u (E 
     fetched (faults n) h = refl
 
     mutual
-      same_cell : (p : Place) → cell_at K E f p ≡ cell_at K E g p
+      pub same_cell : (p : Place) → cell_at K E f p ≡ cell_at K E g p
       same_cell (simple x) = refl
       same_cell (element a i) = λ j. next (same_value i j) (λ w. next (indexed (K.index w)) (element_of (E a)))
       same_cell (fixed a i) = refl
 
-      same_value : (e : Expression) → value K E f e ≡ value K E g e
+      pub same_value : (e : Expression) → value K E f e ≡ value K E g e
       same_value (constant n) = refl
       same_value (word_of p) = ap (λ (w : Work ℕ). next w f) (same_cell p) ∙ fetched (cell_at K E g p) (place_below g p)
       same_value (work o a b) = λ j. next (same_value a j) (λ v. next (same_value b j) (operate K o v))
       same_value (choose c a b) = λ j. let x = same_value a j in let y = same_value b j in next (same_truth c j) (λ t. elim t [ true ↦ x | false ↦ y ])
 
-      same_truth : (c : Condition) → holds K E f c ≡ holds K E g c
+      pub same_truth : (c : Condition) → holds K E f c ≡ holds K E g c
       same_truth (truth b) = refl
       same_truth (compared r a b) = λ j. next (same_value a j) (λ v. next (same_value b j) (λ w. gives (compare K r v w)))
       same_truth (negated c) = λ j. next (same_truth c j) (λ t. gives (not t))
@@ -142,6 +144,19 @@ sits_more u v h nothing k = tt
 sits_more u v h (cell c) k = omega arith
 sits_more u v h (cells b n) k = omega arith
 sits_more u v h (code x y s) k = tt
+
+-- the globals' names stand for cells below those that are taken
+one_sits : (n a b : ℕ) (g : Globals) → ((z : ℕ) → Sits g.taken (g.names z)) → (z : ℕ) → Sits (global_of n a b g).taken ((global_of n a b g).names z)
+one_sits n a zero g h = only_sits (g.taken + 1) (own n) (cell g.taken) g.names (omega arith) (λ z. sits_more g.taken (g.taken + 1) (omega arith) (g.names z) (h z))
+one_sits n a (suc k) g h =
+    only_sits (g.taken + suc k) (own n) (cells g.taken (suc k)) g.names (le_refl (g.taken + suc k)) (λ z. sits_more g.taken (g.taken + suc k) (omega arith) (g.names z) (h z))
+
+all_sit : (n : ℕ) (ps : List (ℕ × ℕ)) (g : Globals) → ((z : ℕ) → Sits g.taken (g.names z)) → (z : ℕ) → Sits (globals_from n ps g).taken ((globals_from n ps g).names z)
+all_sit n [] g h = h
+all_sit n (p ∷ ps) g h = all_sit (suc n) ps (global_of n p.0 p.1 g) (one_sits n p.0 p.1 g h)
+
+pub globals_sit : (ls : List Line) (z : ℕ) → Sits (globals_of ls).taken ((globals_of ls).names z)
+globals_sit ls = all_sit 1 (heads ls) no_globals (λ z. tt)
 
 pub standing_sits : (G : Names) (u : ℕ) → ((z : ℕ) → Sits u (G z)) → (ρ : Env) → Bounded ρ u → (z : ℕ) → Sits u (standing G ρ z)
 standing_sits G u h outside b = h
@@ -182,39 +197,46 @@ orderly_more taken u v h [] o = le_trans o h
 orderly_more taken u v h (p ∷ ps) o = (le_trans o.0 h, o.1, o.2)
 
 data Together (taken : ℕ) (ps : List Item) (a b : Moved) : Type 0 where
-  both_refuse : (f l : ℕ) → a ≡ refuses f l → b ≡ refuses f l → Together taken ps a b
+  both_refuse : (f l : ℕ) (σ τ : List ℕ) (u : ℕ) → a ≡ refuses f l σ → b ≡ refuses f l τ → Even u σ τ → taken ≤ u → Together taken ps a b
   both_move : (qs : List Item) (σ τ : List ℕ) (u : ℕ) → a ≡ moves qs σ → b ≡ moves qs τ → Even u σ τ → Orderly taken u (qs ++ ps) → Together taken ps a b
 
 module _ (taken : ℕ) (ps : List Item) where
-  deeper_both : (size l level used more : ℕ) (a b : Moved) → Together taken ps a b → Together taken ps (deeper size l level used more a) (deeper size l level used more b)
-  deeper_both size l level used more a b k = go (ltb level 512) (leb (used + more) size)
-    where
-      go : (p q : Bool) → Together taken ps (elim p [ true ↦ elim q [ true ↦ a | false ↦ refuses 25 l ] | false ↦ refuses 24 l ])
-          (elim p [ true ↦ elim q [ true ↦ b | false ↦ refuses 25 l ] | false ↦ refuses 24 l ])
-      go true true = k
-      go true false = both_refuse 25 l refl refl
-      go false q = both_refuse 24 l refl refl
+  module _ (used : ℕ) (σ τ : List ℕ) (e : Even used σ τ) (o : Orderly taken used ps) where
+    refuse_both : (f l : ℕ) → Together taken ps (refuses f l σ) (refuses f l τ)
+    refuse_both f l = both_refuse f l σ τ used refl refl e (orderly_least taken used ps o)
 
-  tried_both : {A : Type 0} (l : ℕ) (w v : Work A) → w ≡ v → (f g : A → Moved) → ((a : A) → Together taken ps (f a) (g a)) → Together taken ps (tried l w f) (tried l v g)
-  tried_both {A} l w v e f g h = subst (λ (x : Work A). Together taken ps (tried l w f) (tried l x g)) e (go w)
-    where
-      go : (x : Work A) → Together taken ps (tried l x f) (tried l x g)
-      go (gives a) = h a
-      go (faults n) = both_refuse n l refl refl
+    deeper_both : (size l level more : ℕ) (a b : Moved) → Together taken ps a b
+        → Together taken ps (deeper size l level used more σ a) (deeper size l level used more τ b)
+    deeper_both size l level more a b k = go (ltb level 512) (leb (used + more) size)
+      where
+        go : (p q : Bool) → Together taken ps (elim p [ true ↦ elim q [ true ↦ a | false ↦ refuses 25 l σ ] | false ↦ refuses 24 l σ ])
+            (elim p [ true ↦ elim q [ true ↦ b | false ↦ refuses 25 l τ ] | false ↦ refuses 24 l τ ])
+        go true true = k
+        go true false = refuse_both 25 l
+        go false q = refuse_both 24 l
 
-  tried_cell : (u l : ℕ) (w v : Work ℕ) → w ≡ v → Below u w → (f g : ℕ → Moved) → ((c : ℕ) → c < u → Together taken ps (f c) (g c)) → Together taken ps (tried l w f) (tried l v g)
-  tried_cell u l w v e b f g h = subst (λ (x : Work ℕ). Together taken ps (tried l w f) (tried l x g)) e (go w b)
-    where
-      go : (x : Work ℕ) → Below u x → Together taken ps (tried l x f) (tried l x g)
-      go (gives a) k = h a k
-      go (faults n) k = both_refuse n l refl refl
+    tried_both : {A : Type 0} (l : ℕ) (w v : Work A) → w ≡ v → (f g : A → Moved) → ((a : A) → Together taken ps (f a) (g a))
+        → Together taken ps (tried l σ w f) (tried l τ v g)
+    tried_both {A} l w v e f g h = subst (λ (x : Work A). Together taken ps (tried l σ w f) (tried l τ x g)) e (go w)
+      where
+        go : (x : Work A) → Together taken ps (tried l σ x f) (tried l τ x g)
+        go (gives a) = h a
+        go (faults n) = refuse_both n l
+
+    tried_cell : (u l : ℕ) (w v : Work ℕ) → w ≡ v → Below u w → (f g : ℕ → Moved) → ((c : ℕ) → c < u → Together taken ps (f c) (g c))
+        → Together taken ps (tried l σ w f) (tried l τ v g)
+    tried_cell u l w v e b f g h = subst (λ (x : Work ℕ). Together taken ps (tried l σ w f) (tried l τ x g)) e (go w b)
+      where
+        go : (x : Work ℕ) → Below u x → Together taken ps (tried l σ x f) (tried l τ x g)
+        go (gives a) k = h a k
+        go (faults n) k = refuse_both n l
 
   module _ (K : Arithmetic) (size : ℕ) (G : Names) (globals : (z : ℕ) → Sits taken (G z)) where
     enters_both : (d : Found) (l level used : ℕ) (σ τ : List ℕ) (w c : ℕ) → Closed used d → c < used → Even used σ τ → Orderly taken used ps
-        → Together taken ps (enters K size own_fetch G d l level used σ w c) (enters K size own_fetch G d l level used τ w c)
-    enters_both unknown l level used σ τ w c b h e o = both_refuse 0 l refl refl
+        → Together taken ps (enters K size own_fetch own_room G d l level used σ w c) (enters K size own_fetch own_room G d l level used τ w c)
+    enters_both unknown l level used σ τ w c b h e o = refuse_both used σ τ e o 0 l
     enters_both (closure x y body ρ) l level used σ τ w c b h e o =
-        deeper_both size l level used 1 _ _
+        deeper_both used σ τ e o size l level 1 _ _
         (both_move _ (set σ used w) (set τ used w) (used + 1) refl refl (rw add-one (even_more used σ τ w e))
         (le_refl (used + 1), (omega arith, (omega arith, bounded_more used (used + 1) (omega arith) ρ b)), orderly_more taken used (used + 1) (omega arith) ps o))
 
@@ -225,31 +247,31 @@ module _ (taken : ℕ) (ps : List Item) where
     fetches used σ τ e c h = ap {B = Work ℕ} gives (even_get used σ τ e c h)
 
     moves_both : (s : Statement) (level used : ℕ) (ρ : Env) (σ τ : List ℕ) → Bounded ρ used → Even used σ τ → Orderly taken used ps
-        → Together taken ps (move K size own_fetch G s level used ρ σ) (move K size own_fetch G s level used ρ τ)
+        → Together taken ps (move K size own_fetch own_room G s level used ρ σ) (move K size own_fetch own_room G s level used ρ τ)
     moves_both (assign l p x) level used ρ σ τ b e o =
-        tried_both l _ _ (same_value K (standing G ρ) used (sits used ρ b o) (own_fetch σ) (own_fetch τ) (fetches used σ τ e) x) _ _
-        (λ w. tried_both l _ _ (same_cell K (standing G ρ) used (sits used ρ b o) (own_fetch σ) (own_fetch τ) (fetches used σ τ e) p) _ _
+        tried_both used σ τ e o l _ _ (same_value K (standing G ρ) used (sits used ρ b o) (own_fetch σ) (own_fetch τ) (fetches used σ τ e) x) _ _
+        (λ w. tried_both used σ τ e o l _ _ (same_cell K (standing G ρ) used (sits used ρ b o) (own_fetch σ) (own_fetch τ) (fetches used σ τ e) p) _ _
         (λ c. both_move [] (set σ c w) (set τ c w) used refl refl (even_set used σ τ c w e) o))
     moves_both (both l s t) level used ρ σ τ b e o =
-        deeper_both size l level used 0 _ _ (both_move _ σ τ used refl refl e (le_refl used, b, (le_refl used, b, o)))
+        deeper_both used σ τ e o size l level 0 _ _ (both_move _ σ τ used refl refl e (le_refl used, b, (le_refl used, b, o)))
     moves_both (branch l c s t) level used ρ σ τ b e o =
-        tried_both l _ _ (same_truth K (standing G ρ) used (sits used ρ b o) (own_fetch σ) (own_fetch τ) (fetches used σ τ e) c) _ _
+        tried_both used σ τ e o l _ _ (same_truth K (standing G ρ) used (sits used ρ b o) (own_fetch σ) (own_fetch τ) (fetches used σ τ e) c) _ _
         (λ v. both_move _ σ τ used refl refl e (le_refl used, b, o))
     moves_both (call l q x p) level used ρ σ τ b e o =
-        tried_both l _ _ (same_value K (standing G ρ) used (sits used ρ b o) (own_fetch σ) (own_fetch τ) (fetches used σ τ e) x) _ _
-        (λ w. tried_cell used l _ _ (same_cell K (standing G ρ) used (sits used ρ b o) (own_fetch σ) (own_fetch τ) (fetches used σ τ e) p)
+        tried_both used σ τ e o l _ _ (same_value K (standing G ρ) used (sits used ρ b o) (own_fetch σ) (own_fetch τ) (fetches used σ τ e) x) _ _
+        (λ w. tried_cell used σ τ e o used l _ _ (same_cell K (standing G ρ) used (sits used ρ b o) (own_fetch σ) (own_fetch τ) (fetches used σ τ e) p)
         (place_below K (standing G ρ) used (sits used ρ b o) (own_fetch σ) p) _ _
         (λ c h. enters_both (procedure_at ρ q) l level used σ τ w c (found_closed used ρ b q) h e o))
     moves_both (new_simple l x s) level used ρ σ τ b e o =
-        deeper_both size l level used 1 _ _
+        deeper_both used σ τ e o size l level 1 _ _
         (both_move _ (set σ used K.zero) (set τ used K.zero) (used + 1) refl refl (rw add-one (even_more used σ τ K.zero e))
         (le_refl (used + 1), (omega arith, bounded_more used (used + 1) (omega arith) ρ b), orderly_more taken used (used + 1) (omega arith) ps o))
     moves_both (new_array l a n s) level used ρ σ τ b e o =
-        deeper_both size l level used n _ _
+        deeper_both used σ τ e o size l level n _ _
         (both_move _ (cleared n used K.zero σ) (cleared n used K.zero τ) (used + n) refl refl (even_cleared n used σ τ K.zero e)
         (le_refl (used + n), (le_refl (used + n), bounded_more used (used + n) (omega arith) ρ b), orderly_more taken used (used + n) (omega arith) ps o))
     moves_both (system l d s) level used ρ σ τ b e o =
-        deeper_both size l level used 0 _ _ (both_move _ σ τ used refl refl e (le_refl used, b, o))
+        deeper_both used σ τ e o size l level 0 _ _ (both_move _ σ τ used refl refl e (le_refl used, b, o))
 
 module _ (K : Arithmetic) (size : ℕ) (G : Names) (taken : ℕ) (globals : (z : ℕ) → Sits taken (G z)) where
   ends_so : (u : ℕ) (a : Ending) (k : ℕ) (σ τ : List ℕ) → taken ≤ u → Even u σ τ
@@ -257,20 +279,20 @@ module _ (K : Arithmetic) (size : ℕ) (G : Names) (taken : ℕ) (globals : (z :
   ends_so u a k σ τ h e = record { ending = refl; left = refl; store = even_agree taken σ τ (even_less u taken σ τ h e) }
 
   locally : (n u : ℕ) (ps : List Item) (σ τ : List ℕ) → Orderly taken u ps → Even u σ τ
-      → SameHalt taken (machine K size own_fetch G n ps σ) (machine K size own_fetch G n ps τ)
+      → SameHalt taken (machine K size own_fetch own_room G n ps σ) (machine K size own_fetch own_room G n ps τ)
   locally zero u [] σ τ o e = ends_so u finished 0 σ τ o e
   locally zero u (p ∷ ps) σ τ o e = ends_so u stopped 0 σ τ (orderly_least taken u (p ∷ ps) o) e
   locally (suc n) u [] σ τ o e = ends_so u finished (suc n) σ τ o e
   locally (suc n) u (p ∷ ps) σ τ o e =
-      rw (runs_on K size own_fetch G n p ps σ, runs_on K size own_fetch G n p ps τ)
+      rw (runs_on K size own_fetch own_room G n p ps σ, runs_on K size own_fetch own_room G n p ps τ)
       (go _ _ (moves_both taken ps K size G globals p.text p.level p.used p.env σ τ o.1 (even_less u p.used σ τ o.0 e) o.2)
       (λ qs v σ' τ'. locally n v (qs ++ ps) σ' τ'))
     where
       go : (a b : Moved) → Together taken ps a b
           → ((qs : List Item) (v : ℕ) (σ' τ' : List ℕ) → Orderly taken v (qs ++ ps) → Even v σ' τ'
-          → SameHalt taken (machine K size own_fetch G n (qs ++ ps) σ') (machine K size own_fetch G n (qs ++ ps) τ'))
-          → SameHalt taken (onward K size own_fetch G n ps σ a) (onward K size own_fetch G n ps τ b)
-      go a b (both_refuse f l ea eb) ih = rw (ea, eb) (ends_so u (fault f l) n σ τ (orderly_least taken u (p ∷ ps) o) e)
+          → SameHalt taken (machine K size own_fetch own_room G n (qs ++ ps) σ') (machine K size own_fetch own_room G n (qs ++ ps) τ'))
+          → SameHalt taken (onward K size own_fetch own_room G n ps a) (onward K size own_fetch own_room G n ps b)
+      go a b (both_refuse f l σ' τ' v ea eb k h) ih = rw (ea, eb) (ends_so v (fault f l) n σ' τ' h k)
       go a b (both_move qs σ' τ' v ea eb k w) ih = rw (ea, eb) (ih qs v σ' τ' w k)
 
 pub runs_locally : Local

@@ -9,6 +9,7 @@ use Rattle.script.specs.Names.{Names, Standing, cell, cells, code}
 use Rattle.rule.specs.Values.{compare, cell_of, element_of, indexed, material, operate, cell_at, value, holds}
 use Rattle.rule.specs.Rewriting.{Pending, Situation, Begun, goes, fails, worked, entered, counted, renamed, known, cleared, settled, copied, begin}
 use Rattle.rule.specs.Machine.{Found, procedure_at, standing, Item, Moved, moves, refuses, tried, deeper, enters, move}
+use Rattle.rule.specs.Closing.{own_room}
 use Rattle.rule.specs.Fine.{unused, a_simple, an_array, a_procedure, Kinds, FinePlace, FineExpression, FineCondition, Fine}
 use Rattle.rule.proofs.Compose.{after, after_statement, differ, here, there}
 use Rattle.rule.proofs.Matching.{Joint, with_simple, with_array, with_system, env_of, put_for, procs_put, kinds_of, cell_here, Coded, Settled, Good, Kept, Starts}
@@ -65,7 +66,7 @@ pub record Grows (s s' : Situation) : Type 0 where
   pub same : (n : ℕ) → n < s.fresh → s'.names n ≡ s.names n
 
 pub data Lock (κ₀ : Kinds) (s : Situation) (b : Begun) (v : Moved) : Type 0 where
-  both_fail : (f l : ℕ) → b ≡ fails f l → v ≡ refuses f l → Lock κ₀ s b v
+  both_fail : (f l : ℕ) → b ≡ fails f l → v ≡ refuses f l s.store → Lock κ₀ s b v
   both_go : (ts : List Task) (s' : Situation) → b ≡ goes (copies ts) s' → v ≡ moves (items ts) s'.store
       → Proper κ₀ s'.names s'.fresh ts → Grows s s' → Lock κ₀ s b v
 
@@ -73,19 +74,19 @@ unchanged : (s : Situation) → Grows s s
 unchanged s = record { more = le_refl s.fresh; same = λ n h. refl }
 
 module _ (κ₀ : Kinds) (s : Situation) where
-  entered_lock : (size l level used more : ℕ) (b : Begun) (v : Moved) → Lock κ₀ s b v → Lock κ₀ s (entered size l level used more b) (deeper size l level used more v)
+  entered_lock : (size l level used more : ℕ) (b : Begun) (v : Moved) → Lock κ₀ s b v → Lock κ₀ s (entered size l level used more b) (deeper size l level used more s.store v)
   entered_lock size l level used more b v k = go (ltb level 512) (leb (used + more) size)
     where
       go : (p q : Bool) → Lock κ₀ s (elim p [ true ↦ elim q [ true ↦ b | false ↦ fails 25 l ] | false ↦ fails 24 l ])
-          (elim p [ true ↦ elim q [ true ↦ v | false ↦ refuses 25 l ] | false ↦ refuses 24 l ])
+          (elim p [ true ↦ elim q [ true ↦ v | false ↦ refuses 25 l s.store ] | false ↦ refuses 24 l s.store ])
       go true true = k
       go true false = both_fail 25 l refl refl
       go false q = both_fail 24 l refl refl
 
-  worked_lock : {A : Type 0} (l : ℕ) (w v : Work A) → w ≡ v → (f : A → Begun) (g : A → Moved) → ((a : A) → Lock κ₀ s (f a) (g a)) → Lock κ₀ s (worked l w f) (tried l v g)
-  worked_lock {A} l w v e f g h = subst (λ (u : Work A). Lock κ₀ s (worked l w f) (tried l u g)) e (go w)
+  worked_lock : {A : Type 0} (l : ℕ) (w v : Work A) → w ≡ v → (f : A → Begun) (g : A → Moved) → ((a : A) → Lock κ₀ s (f a) (g a)) → Lock κ₀ s (worked l w f) (tried l s.store v g)
+  worked_lock {A} l w v e f g h = subst (λ (u : Work A). Lock κ₀ s (worked l w f) (tried l s.store u g)) e (go w)
     where
-      go : (u : Work A) → Lock κ₀ s (worked l u f) (tried l u g)
+      go : (u : Work A) → Lock κ₀ s (worked l u f) (tried l s.store u g)
       go (gives a) = h a
       go (faults n) = both_fail n l refl refl
 
@@ -185,9 +186,9 @@ module _ (K : Arithmetic) (size : ℕ) (fetch : List ℕ → ℕ → Work ℕ) (
 
     called_lock : (l level used w : ℕ) (q : ℕ) (p : Place) (c : ℕ) → kinds_of κ₀ m q ≡ a_procedure → Settled κ₀ s.fresh p → cell_here s.names p ≡ gives c
         → Lock κ₀ s (copied K size fetch (s.names ((put_for m).proc q)) l level used s w p)
-        (enters K size fetch G (procedure_at (env_of m) q) l level used s.store w c)
+        (enters K size fetch own_room G (procedure_at (env_of m) q) l level used s.store w c)
     called_lock l level used w q p c h sp cp =
-        subst₂ (λ (st : Standing) (f : Found). Lock κ₀ s (copied K size fetch st l level used s w p) (enters K size fetch G f l level used s.store w c))
+        subst₂ (λ (st : Standing) (f : Found). Lock κ₀ s (copied K size fetch st l level used s w p) (enters K size fetch own_room G f l level used s.store w c))
         (sym k.stands) (sym k.is)
         (entered_lock κ₀ s size l level used 1 _ _ (both_go
         (record { text = k.body; level = level + 1; used = used + 1; joint = with_simple k.y c p inner } ∷ [])
@@ -226,7 +227,7 @@ module _ (K : Arithmetic) (size : ℕ) (fetch : List ℕ → ℕ → Work ℕ) (
             ∙ after_statement (for_simple k.y p) (put_for inner) k.body
 
     system_lock : (l : ℕ) (d : Declarations) (a : Statement) (level used : ℕ) → Fine (kinds_of κ₀ m) (system l d a)
-        → Lock κ₀ s (begin K size fetch (in_statement (put_for m) (system l d a)) level used s) (move K size fetch G (system l d a) level used (env_of m) s.store)
+        → Lock κ₀ s (begin K size fetch (in_statement (put_for m) (system l d a)) level used s) (move K size fetch own_room G (system l d a) level used (env_of m) s.store)
     system_lock l d a level used h =
         entered_lock κ₀ s size l level used 0 _ _ (both_go
         (record { text = a; level = level + 1; used = used; joint = with_system d s.fresh m } ∷ [])
@@ -259,22 +260,22 @@ module _ (K : Arithmetic) (size : ℕ) (fetch : List ℕ → ℕ → Work ℕ) (
 
     call_lock : (l level used : ℕ) (q : ℕ) (p : Place) → kinds_of κ₀ m q ≡ a_procedure → FinePlace (kinds_of κ₀ m) p → (w : ℕ)
         → Lock κ₀ s (worked l (settled K size fetch s (in_place (put_for m) p)) (λ p'. copied K size fetch (s.names ((put_for m).proc q)) l level used s w p'))
-        (tried l (cell_at K (standing G (env_of m)) (fetch s.store) p) (λ c. enters K size fetch G (procedure_at (env_of m) q) l level used s.store w c))
+        (tried l s.store (cell_at K (standing G (env_of m)) (fetch s.store) p) (λ c. enters K size fetch own_room G (procedure_at (env_of m) q) l level used s.store w c))
     call_lock l level used q p hq hp w = go (both_settle p hp)
       where
         f : Place → Begun
         f p' = copied K size fetch (s.names ((put_for m).proc q)) l level used s w p'
 
         v : ℕ → Moved
-        v c = enters K size fetch G (procedure_at (env_of m) q) l level used s.store w c
+        v c = enters K size fetch own_room G (procedure_at (env_of m) q) l level used s.store w c
 
-        go : {a : Work Place} {b : Work ℕ} → Settles a b → Lock κ₀ s (worked l a f) (tried l b v)
-        go (faulty n ea eb) = both_fail n l (ap (λ (a : Work Place). worked l a f) ea) (ap (λ (b : Work ℕ). tried l b v) eb)
+        go : {a : Work Place} {b : Work ℕ} → Settles a b → Lock κ₀ s (worked l a f) (tried l s.store b v)
+        go (faulty n ea eb) = both_fail n l (ap (λ (a : Work Place). worked l a f) ea) (ap (λ (b : Work ℕ). tried l s.store b v) eb)
         go (settles p' c ea eb sp cp) =
-            subst₂ (λ (a : Work Place) (b : Work ℕ). Lock κ₀ s (worked l a f) (tried l b v)) (sym ea) (sym eb) (called_lock l level used w q p' c hq sp cp)
+            subst₂ (λ (a : Work Place) (b : Work ℕ). Lock κ₀ s (worked l a f) (tried l s.store b v)) (sym ea) (sym eb) (called_lock l level used w q p' c hq sp cp)
 
     simple_lock : (l x : ℕ) (a : Statement) (level used : ℕ) → Fine (kinds_of κ₀ m) (new_simple l x a)
-        → Lock κ₀ s (begin K size fetch (in_statement (put_for m) (new_simple l x a)) level used s) (move K size fetch G (new_simple l x a) level used (env_of m) s.store)
+        → Lock κ₀ s (begin K size fetch (in_statement (put_for m) (new_simple l x a)) level used s) (move K size fetch own_room G (new_simple l x a) level used (env_of m) s.store)
     simple_lock l x a level used h =
         entered_lock κ₀ s size l level used 1 _ _ (both_go
         (record { text = a; level = level + 1; used = used + 1; joint = with_simple x used (simple s.fresh) m } ∷ [])
@@ -297,7 +298,7 @@ module _ (K : Arithmetic) (size : ℕ) (fetch : List ℕ → ℕ → Work ℕ) (
         grows = one_more (cell used) (set s.store used K.zero)
 
     array_lock : (l x n : ℕ) (a : Statement) (level used : ℕ) → Fine (kinds_of κ₀ m) (new_array l x n a)
-        → Lock κ₀ s (begin K size fetch (in_statement (put_for m) (new_array l x n a)) level used s) (move K size fetch G (new_array l x n a) level used (env_of m) s.store)
+        → Lock κ₀ s (begin K size fetch (in_statement (put_for m) (new_array l x n a)) level used s) (move K size fetch own_room G (new_array l x n a) level used (env_of m) s.store)
     array_lock l x n a level used h =
         entered_lock κ₀ s size l level used n _ _ (both_go
         (record { text = a; level = level + 1; used = used + n; joint = with_array x used n s.fresh m } ∷ [])
@@ -320,7 +321,7 @@ module _ (K : Arithmetic) (size : ℕ) (fetch : List ℕ → ℕ → Work ℕ) (
         grows = one_more (cells used n) (cleared n used K.zero s.store)
 
     pub lockstep : (t : Statement) (level used : ℕ) → Fine (kinds_of κ₀ m) t
-        → Lock κ₀ s (begin K size fetch (in_statement (put_for m) t) level used s) (move K size fetch G t level used (env_of m) s.store)
+        → Lock κ₀ s (begin K size fetch (in_statement (put_for m) t) level used s) (move K size fetch own_room G t level used (env_of m) s.store)
     lockstep (assign l p e) level used h =
         worked_lock κ₀ s l _ _ (values_agree e h.1) _ _ (λ w. worked_lock κ₀ s l _ _ (cells_agree p h.0) _ _ (λ c.
         both_go [] (record { names = s.names; fresh = s.fresh; store = set s.store c w }) refl refl tt (record { more = le_refl s.fresh; same = λ n k. refl })))

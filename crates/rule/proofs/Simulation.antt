@@ -7,6 +7,7 @@ use Rattle.script.specs.Names.{Names}
 use Rattle.rule.specs.Rewriting.{Pending, Situation, Begun, goes, fails, begins, fault, Halt, rewrite}
 use Rattle.rule.specs.Machine.{Item, Moved, moves, refuses, move, machine}
 use Rattle.rule.specs.Fine.{Kinds, start_kinds, MachineAgrees}
+use Rattle.rule.specs.Closing.{own_room}
 use Rattle.rule.proofs.Compose.{kept_statement}
 use Rattle.rule.proofs.Matching.{at_outside, Kept, Starts, starts, good_on}
 use Rattle.rule.proofs.Lockstep.{Task, copy_of, item_of, copies, items, Proper, Grows, Lock, both_fail, both_go, lockstep}
@@ -43,29 +44,29 @@ module _ (K : Arithmetic) (size : ℕ) (fetch : List ℕ → ℕ → Work ℕ) (
       go (goes qs s') = refl
       go (fails f l) = refl
 
-  abbrev onward : ℕ → List Item → List ℕ → Moved → Halt
-  onward n ps σ (moves qs σ') = machine K size fetch G n (qs ++ ps) σ'
-  onward n ps σ (refuses f l) = record { ending = fault f l; left = n; store = σ }
+  abbrev onward : ℕ → List Item → Moved → Halt
+  onward n ps (moves qs σ') = machine K size fetch own_room G n (qs ++ ps) σ'
+  onward n ps (refuses f l σ') = record { ending = fault f l; left = n; store = σ' }
 
   runs_on : (n : ℕ) (p : Item) (ps : List Item) (σ : List ℕ)
-      → machine K size fetch G (suc n) (p ∷ ps) σ ≡ onward n ps σ (move K size fetch G p.text p.level p.used p.env σ)
-  runs_on n p ps σ = go (move K size fetch G p.text p.level p.used p.env σ)
+      → machine K size fetch own_room G (suc n) (p ∷ ps) σ ≡ onward n ps (move K size fetch own_room G p.text p.level p.used p.env σ)
+  runs_on n p ps σ = go (move K size fetch own_room G p.text p.level p.used p.env σ)
     where
-      go : (b : Moved) → elim b [ moves qs σ' ↦ machine K size fetch G n (qs ++ ps) σ' | refuses f l ↦ record { ending = fault f l; left = n; store = σ } ] ≡ onward n ps σ b
+      go : (b : Moved) → elim b [ moves qs σ' ↦ machine K size fetch own_room G n (qs ++ ps) σ' | refuses f l σ' ↦ record { ending = fault f l; left = n; store = σ' } ] ≡ onward n ps b
       go (moves qs σ') = refl
-      go (refuses f l) = refl
+      go (refuses f l σ') = refl
 
   module _ (κ₀ : Kinds) (f₀ : ℕ) (S : Starts κ₀ G f₀) where
     abbrev Same : ℕ → Type 0
     Same n = (ts : List Task) (s : Situation) → Kept G f₀ s.names s.fresh → Proper κ₀ s.names s.fresh ts
-        → machine K size fetch G n (items ts) s.store ≡ rewrite K size fetch n (copies ts) s
+        → machine K size fetch own_room G n (items ts) s.store ≡ rewrite K size fetch n (copies ts) s
 
     locked : (n : ℕ) → Same n → (ts : List Task) (s : Situation) → Kept G f₀ s.names s.fresh → Proper κ₀ s.names s.fresh ts
-        → (b : Begun) (v : Moved) → Lock κ₀ s b v → onward n (items ts) s.store v ≡ on n (copies ts) s b
-    locked n ih ts s k p b v (both_fail f l eb ev) = ap (onward n (items ts) s.store) ev ∙ sym (ap (on n (copies ts) s) eb)
+        → (b : Begun) (v : Moved) → Lock κ₀ s b v → onward n (items ts) v ≡ on n (copies ts) s b
+    locked n ih ts s k p b v (both_fail f l eb ev) = ap (onward n (items ts)) ev ∙ sym (ap (on n (copies ts) s) eb)
     locked n ih ts s k p b v (both_go us s' eb ev q g) =
-        ap (onward n (items ts) s.store) ev
-        ∙ ap (λ (is : List Item). machine K size fetch G n is s'.store) (sym (items_append us ts))
+        ap (onward n (items ts)) ev
+        ∙ ap (λ (is : List Item). machine K size fetch own_room G n is s'.store) (sym (items_append us ts))
         ∙ ih (us ++ ts) s' (kept_on G f₀ s s' g k) (proper_append κ₀ s'.names s'.fresh us ts q (proper_on κ₀ s s' g ts p))
         ∙ ap (λ (ps : List Pending). rewrite K size fetch n ps s') (copies_append us ts)
         ∙ sym (ap (on n (copies ts) s) eb)

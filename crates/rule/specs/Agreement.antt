@@ -10,12 +10,13 @@ use Rattle.script.specs.IsScript.{IsScript}
 use Rattle.rule.specs.Work.{Work}
 use Rattle.rule.specs.Rewriting.{rewrite}
 use Rattle.rule.specs.Machine.{outside, machine}
+use Rattle.rule.specs.Closing.{own_room}
 
 module _ (K : Arithmetic) (size : ℕ) (fetch : List ℕ → ℕ → Work ℕ) (ls : List Line) (t : Statement) where
-  -- from every store, with every allowance, both come to the same halt
+  -- from every store, with every allowance, both come to the same halt, where every put is taken
   abbrev pub GoTogether : Type 0
   GoTogether = (n level used : ℕ) (σ : List ℕ)
-      → machine K size fetch (globals_of ls).names n
+      → machine K size fetch own_room (globals_of ls).names n
       (record { text = statement_apart (globals_of ls).scope t; level = level; used = used; env = outside } ∷ []) σ
       ≡ rewrite K size fetch n (record { text = statement_apart (globals_of ls).scope t; level = level; used = used } ∷ [])
       (record { names = (globals_of ls).names; fresh = first_fresh; store = σ })
@@ -26,7 +27,7 @@ ToldAgrees = (K : Arithmetic) (size : ℕ) (fetch : List ℕ → ℕ → Work �
     → Scoped (globals_of ls).scope t → EachOnce (declaring_lines t) → Each (λ l. (past_globals ls ≤ l) × (l < 2049)) (declaring_lines t)
     → GoTogether K size fetch ls t
 
--- every script of at most 2,048 lines, for every kind, size and store
+-- every script of at most 2,048 lines, for every kind, size and store that takes every put
 abbrev pub AcceptedAgrees : Type 0
 AcceptedAgrees = (K : Arithmetic) (size : ℕ) (fetch : List ℕ → ℕ → Work ℕ) (low high : ℤ) (ls : List Line) → length ls ≤ 2048
     → (s : IsScript low high ls) → GoTogether K size fetch ls s.text

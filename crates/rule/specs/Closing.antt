@@ -1,5 +1,5 @@
 -- What a run of a script comes to: its closing by the copy rule, and the rule's own count.
-use Rattle.std.specs.Prelude.{◌≡◌, ℕ, ◌-◌, ◌<◌, ◌≤◌, List, [], ◌∷◌, ◌++◌, take, replicate, slice_index}
+use Rattle.std.specs.Prelude.{◌≡◌, ℕ, ◌-◌, ◌<◌, ◌≤◌, Bool, true, List, [], ◌∷◌, ◌++◌, take, replicate, slice_index}
 use Rattle.kinds.specs.Arithmetic.{Arithmetic}
 use Rattle.script.specs.Script.{Statement}
 use Rattle.lines.specs.declared.records.Line.{Line}
@@ -7,6 +7,7 @@ use Rattle.script.specs.Names.{Names}
 use Rattle.script.specs.Apart.{globals_of, statement_apart, first_fresh}
 use Rattle.rule.specs.Work.{Work, gives}
 use Rattle.rule.specs.Rewriting.{Pending, Situation, Ending, finished, stopped}
+use Rattle.rule.specs.Machine.{Item, outside}
 use Rattle.rule.specs.CopyRule.{Outcome, through, halts, Runs}
 
 -- a script as the rule runs it: its text with the declarations told apart, what the globals' names stand for, how many cells they take,
@@ -23,13 +24,20 @@ pub record Closing : Type 0 where
   pub count : ℕ
   pub globals : List ℕ
 
--- the rule's own store: every place that it looks at is there
+-- the rule's own store: every place that it looks at is there, and takes every put
 abbrev pub own_fetch : List ℕ → ℕ → Work ℕ
 own_fetch σ c = gives (slice_index σ c)
+
+abbrev pub own_room : List ℕ → ℕ → Bool
+own_room σ u = true
 
 -- a run starts with the whole text at level 0, the globals' cells in use
 abbrev pub start : Program → List Pending
 start P = record { text = P.text; level = 0; used = P.taken } ∷ []
+
+-- and so does the machine's
+abbrev pub first_items : Program → List Item
+first_items P = record { text = P.text; level = 0; used = P.taken; env = outside } ∷ []
 
 module _ (K : Arithmetic) (P : Program) (size : ℕ) where
   -- the first situation: the globals' words, and zeros in the other cells

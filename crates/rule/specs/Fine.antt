@@ -7,6 +7,7 @@ use Rattle.script.specs.Script.{Statement, assign, both, branch, call, new_simpl
 use Rattle.script.specs.Names.{Names, Standing, nothing, cell, cells, code}
 use Rattle.rule.specs.Rewriting.{Situation, rewrite}
 use Rattle.rule.specs.Machine.{outside, machine}
+use Rattle.rule.specs.Closing.{own_room}
 
 -- what a name is at a place of the text: to be declared further in, a variable, an array or a procedure of the declarations around, or beyond the text
 pub data Kind : Type 0 where
@@ -68,9 +69,9 @@ start_kind (code x y s) = unused
 abbrev pub start_kinds : Names → ℕ → Kinds
 start_kinds G f x = elim (nat_le f x) [ true ↦ beyond | false ↦ start_kind (G x) ]
 
--- the machine ends every run of a text whose names are in order as the copy rule does
+-- over a store that takes every put, the machine ends every run of a text whose names are in order as the copy rule does
 abbrev pub MachineAgrees : Type 0
 MachineAgrees = (K : Arithmetic) (size : ℕ) (fetch : List ℕ → ℕ → Work ℕ) (s : Situation) (t : Statement) → Fine (start_kinds s.names s.fresh) t
     → (n level used : ℕ)
-    → machine K size fetch s.names n (record { text = t; level = level; used = used; env = outside } ∷ []) s.store
+    → machine K size fetch own_room s.names n (record { text = t; level = level; used = used; env = outside } ∷ []) s.store
     ≡ rewrite K size fetch n (record { text = t; level = level; used = used } ∷ []) s

@@ -3,10 +3,13 @@ pub mod Values
 pub mod Rewriting
 pub mod CopyRule
 pub mod Laws
+pub mod Machine
 pub mod Closing
 pub mod Count
-pub mod Machine
 pub mod Fine
 pub mod Agreement
 pub mod Resume
 pub mod Local
+pub mod Tidy
+pub mod Lawful
+pub mod Handed

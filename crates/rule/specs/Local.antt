@@ -7,7 +7,7 @@ use Rattle.rule.specs.Machine.{Env, outside, simple_in, array_in, system_in, Ite
 use Rattle.lines.specs.declared.records.Line.{Line}
 use Rattle.script.specs.Apart.{globals_of, first_fresh}
 use Rattle.script.specs.IsScript.{IsScript}
-use Rattle.rule.specs.Closing.{own_fetch, program_of, start}
+use Rattle.rule.specs.Closing.{own_fetch, own_room, program_of, start}
 use Rattle.rule.specs.Rewriting.{rewrite}
 
 -- cells of a name below u
@@ -40,7 +40,7 @@ pub record SameHalt (taken : ℕ) (a b : Halt) : Type 0 where
 abbrev pub Local : Type 0
 Local = (K : Arithmetic) (size : ℕ) (G : Names) (taken : ℕ) → ((z : ℕ) → Sits taken (G z))
     → (n u : ℕ) (ps : List Item) (σ τ : List ℕ) → Orderly taken u ps → Agree u σ τ
-    → SameHalt taken (machine K size own_fetch G n ps σ) (machine K size own_fetch G n ps τ)
+    → SameHalt taken (machine K size own_fetch own_room G n ps σ) (machine K size own_fetch own_room G n ps τ)
 
 -- a script's runs by the copy rule, from stores of one length that agree on the globals' cells: equal endings, allowances left and globals,
 -- whatever the other cells hold

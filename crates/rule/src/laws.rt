@@ -2,9 +2,12 @@
 ghost use Rattle.rule.specs.Agreement.{AcceptedAgrees};
 ghost use Rattle.rule.specs.Count.{Counted, Stays};
 ghost use Rattle.rule.specs.Fine.{MachineAgrees};
+ghost use Rattle.rule.specs.Handed.{HandedOver, StoresReadLawfully};
 ghost use Rattle.rule.specs.Laws.{Agrees};
+ghost use Rattle.rule.specs.Lawful.{StaysLawful};
 ghost use Rattle.rule.specs.Local.{GlobalsSuffice, Local};
 ghost use Rattle.rule.specs.Resume.{Resumes};
+ghost use Rattle.rule.specs.Tidy.{NumbersFit, StaysTidy};
 
 // A run by the rule always has exactly one outcome, and rewriting the text that is left gives it.
 pub fn rule_agrees()
@@ -26,12 +29,12 @@ pub fn machine_agrees()
     ensures { MachineAgrees }
 {}
 
-// and so on every script, for every kind, size, allowance and store.
+// and so on every script, for every kind, size, allowance and store that takes every put.
 pub fn accepted_agrees()
     ensures { AcceptedAgrees }
 {}
 
-// Running n statements and then m more is running n + m.
+// Running n statements and then m more is running n + m, for the machine over every store.
 pub fn resumes()
     ensures { Resumes }
 {}
@@ -44,4 +47,29 @@ pub fn runs_locally()
 // and so a script's run by the rule depends on the globals alone, whatever the other cells hold.
 pub fn globals_suffice()
     ensures { GlobalsSuffice }
+{}
+
+// What waits in a machine's run is at falling levels up to 512, so there are at most 513 statements of it, with cells in use that the size has,
+pub fn stays_tidy()
+    ensures { StaysTidy }
+{}
+
+// and so it is in every run of a sheet's text.
+pub fn numbers_fit()
+    ensures { NumbersFit }
+{}
+
+// From lawful words in the globals' cells, a script's run keeps lawful words in the cells in use, and works lawful values only.
+pub fn stays_lawful()
+    ensures { StaysLawful }
+{}
+
+// Neither the store that is handed over nor the rule's own makes an unlawful word of lawful ones;
+pub fn stores_read_lawfully()
+    ensures { StoresReadLawfully }
+{}
+
+// and so, from lawful words in the globals' cells, a script runs over the one as over the other.
+pub fn handed_over()
+    ensures { HandedOver }
 {}
