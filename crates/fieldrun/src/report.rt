@@ -23,7 +23,7 @@ pub(crate) fn write_refusal(rt: &impl Print, refusal: Refusal<u8>) -> anyhow::Re
     let line = WrittenLine {
         letter: b'r',
         first: refusal.cause as u32,
-        second: refusal.line as u32,
+        second: refusal.line.try_into()?,
         third: 0,
     };
     write_line(rt, line)

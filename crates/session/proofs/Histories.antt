@@ -9,10 +9,10 @@ use Rattle.stores.proofs.Accessing.{next_written}
 use Rattle.kinds.specs.Arithmetic.{Arithmetic}
 use Rattle.lines.specs.declared.records.Line.{Line}
 use Rattle.lines.specs.declared.records.Record.{Record}
-use Rattle.script.specs.Apart.{globals_of, heads, no_globals, own}
+use Rattle.script.specs.Apart.{globals_of, own}
 use Rattle.script.specs.Names.{Standing, nothing, cell, cells, code}
 use Rattle.rule.specs.Local.{Sits}
-use Rattle.rule.proofs.Inner.{all_sit}
+use Rattle.rule.proofs.Local.{globals_sit}
 use Rattle.acceptance.specs.declared.globals.GlobalSort.TheVariants.{Simple}
 use Rattle.acceptance.specs.Sheet.{lines_of}
 use Rattle.acceptance.specs.Scripts.{global_standing}
@@ -71,7 +71,7 @@ cell_taken : (ls : List Line) (g : GlobalCell) (c : ℕ) → cell_of ls g ≡ So
 cell_taken ls g c e =
     let w = standing_own ls g.name g.sort in
     has_below (globals_of ls).taken (global_standing ls g.sort g.name) c
-    (subst (λ s. Sits (globals_of ls).taken s) (sym w.1) (all_sit 1 (heads ls) no_globals (λ z. tt) (own w.0)))
+    (subst (λ s. Sits (globals_of ls).taken s) (sym w.1) (globals_sit ls (own w.0)))
     (at_index_has (global_standing ls g.sort g.name) g.index c e)
 
 -- ## One call

@@ -1,0 +1,144 @@
+// What calls answer, at rest and where no session is, over the store of the opening and over another one.
+use crate::samples::{INFINITE, LINES, SHEET, bytes_of};
+use acceptance::globals::GlobalSort;
+use acceptance::scripts::{Script, ScriptCause, read_script};
+use kinds::{NumberKind, Single, Whole};
+use lines::records::{Name, Record};
+use lines::refusals::Refusal;
+use session::calls::{Answer, Call, play};
+use session::causes::SessionCause;
+use session::sessions::{GlobalCell, Session};
+use std::test::Fail;
+use stores::{ByteImage, Store, WordTable};
+
+type Answered = Result<Answer, Refusal<SessionCause>>;
+
+fn refused(cause: SessionCause) -> Answered {
+    Err(Refusal { cause, line: 0 })
+}
+
+fn simple(name: Name, index: u16) -> GlobalCell {
+    GlobalCell {
+        sort: GlobalSort::Simple,
+        name,
+        index,
+    }
+}
+
+fn element(name: Name, index: u16) -> GlobalCell {
+    GlobalCell {
+        sort: GlobalSort::Array,
+        name,
+        index,
+    }
+}
+
+fn post(global: GlobalCell, word: u32) -> Call {
+    Call::Post { global, word }
+}
+
+fn reading(global: GlobalCell) -> Call {
+    Call::Reading { global }
+}
+
+// Calls in order over the words 10, 20, 30, 40, and what they answer with singles.
+fn table() -> [(Call, Answered); MANY] {
+    [
+        (reading(simple(1, 0)), Ok(Answer::Word(10))),
+        (reading(element(2, 2)), Ok(Answer::Word(40))),
+        (post(element(2, 0), 5), Ok(Answer::Posted)),
+        (reading(element(2, 0)), Ok(Answer::Word(5))),
+        (reading(element(2, 1)), Ok(Answer::Word(30))),
+        (post(element(2, 0), 6), Ok(Answer::Posted)),
+        (reading(element(2, 0)), Ok(Answer::Word(6))),
+        (reading(element(2, 3)), refused(SessionCause::NoSuchGlobal)),
+        (reading(simple(1, 1)), refused(SessionCause::NoSuchGlobal)),
+        (reading(simple(2, 0)), refused(SessionCause::NoSuchGlobal)),
+        (post(element(1, 0), 5), refused(SessionCause::NoSuchGlobal)),
+        // no such index, and the word unlawful
+        (
+            post(element(2, 3), INFINITE),
+            refused(SessionCause::NoSuchGlobal),
+        ),
+        (
+            post(simple(1, 0), INFINITE),
+            refused(SessionCause::UnlawfulWord),
+        ),
+        (reading(simple(1, 0)), Ok(Answer::Word(10))),
+    ]
+}
+
+const MANY: usize = 14;
+
+const WORDS: [u32; 4] = [10, 20, 30, 40];
+
+// Makes the calls of the table over a store and tells whether each got its answer.
+fn plays<S: Store>(store: &mut S) -> Result<bool, Refusal<ScriptCause>> {
+    let mut records = [Record::BLANK; LINES];
+    let count = read_script::<Single>(SHEET.as_bytes(), &mut records)?;
+    let script: Script<Single> = Script::new(&records[..count]);
+    let mut answers = [Ok(Answer::Posted); MANY];
+    let calls = table().map(|(call, _)| call);
+    let made = play(&script, store, &calls, &mut answers);
+    Ok(made == Ok(MANY) && answers == table().map(|(_, answer)| answer))
+}
+
+#[test]
+fn calls_over_both_stores(rt: HostRuntime) -> Result<(), Fail> {
+    let mut cells = WORDS;
+    assert_eq!(rt; plays(&mut WordTable::new(&mut cells)), Ok(true));
+    assert_eq!(rt; cells, [10, 6, 30, 40]);
+    let mut bytes = bytes_of(&WORDS);
+    assert_eq!(rt; plays(&mut ByteImage::new(&mut bytes)), Ok(true));
+    assert_eq!(rt; bytes, bytes_of(&[10, 6, 30, 40]));
+    Ok(())
+}
+
+// An opened session over other stores than its own, and one that is not opened.
+fn over_another<K: NumberKind, S: Store>(
+    store: &mut S,
+) -> Result<[Answered; 4], Refusal<ScriptCause>> {
+    let mut records = [Record::BLANK; LINES];
+    let count = read_script::<K>(SHEET.as_bytes(), &mut records)?;
+    let script: Script<K> = Script::new(&records[..count]);
+    let mut session = Session::unopened();
+    let unopened = session.make(store, post(simple(9, 9), INFINITE));
+    let mut words = WORDS;
+    let opened = session.open(&script, &WordTable::new(&mut words));
+    Ok([
+        unopened,
+        opened.map(|_| Answer::Posted),
+        session.make(store, post(element(2, 2), 5)),
+        session.make(store, reading(simple(1, 0))),
+    ])
+}
+
+#[test]
+fn calls_over_another_store(rt: HostRuntime) -> Result<(), Fail> {
+    let not_at_rest = refused(SessionCause::NotAtRest);
+    let fails = refused(SessionCause::StoreFails);
+    let done = Ok(Answer::Posted);
+    // of three cells, the first unlawful for singles
+    let mut cells = [INFINITE, 20, 30];
+    let mut table = WordTable::new(&mut cells);
+    assert_eq!(rt;
+        over_another::<Whole, _>(&mut table),
+        Ok([not_at_rest, done, fails, Ok(Answer::Word(INFINITE))])
+    );
+    assert_eq!(rt;
+        over_another::<Single, _>(&mut table),
+        Ok([not_at_rest, done, fails, fails])
+    );
+    let mut bytes = bytes_of(&[INFINITE, 20, 30]);
+    let mut image = ByteImage::new(&mut bytes[..12]);
+    assert_eq!(rt;
+        over_another::<Whole, _>(&mut image),
+        Ok([not_at_rest, done, fails, Ok(Answer::Word(INFINITE))])
+    );
+    assert_eq!(rt;
+        over_another::<Single, _>(&mut image),
+        Ok([not_at_rest, done, fails, fails])
+    );
+    assert_eq!(rt; bytes, bytes_of(&[INFINITE, 20, 30]));
+    Ok(())
+}
