@@ -7,7 +7,7 @@ use Rattle.lines.specs.declared.records.Record.{Record}
 use Rattle.lines.specs.declared.records.Role.{Role}
 use Rattle.lines.specs.declared.records.Role.TheVariants.{Declared, ValueFormal, VariableFormal, GlobalSimple, GlobalArray}
 use Rattle.lines.specs.declared.records.Declaration.{Declaration}
-use Rattle.script.specs.Names.{Names, Standing, nothing, cell, cells}
+use Rattle.script.specs.Names.{Names, Standing, cell, cells}
 use Rattle.script.specs.Apart.{Globals, found, global_of, globals_from, globals_of, heads, no_globals, own}
 use Rattle.script.specs.Lists.{Each}
 use Rattle.script.proofs.Lists.{each_left, each_right}

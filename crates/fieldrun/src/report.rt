@@ -43,7 +43,9 @@ fn write_global<K: NumberKind, S: Store>(
     };
     for index in 0..count {
         let global = GlobalCell { sort, name, index };
-        let word = session.reading(store, global).map_err(|refusal| refusal.cause)?;
+        let word = session
+            .reading(store, global)
+            .map_err(|refusal| refusal.cause)?;
         let line = WrittenLine {
             letter,
             first: name as u32,

@@ -1,5 +1,5 @@
 -- A session at rest answers what its history demands: one call more.
-use Rattle.std.proofs.Common.{◌≡◌, ℕ, zero, suc, ◌+◌, ◌<◌, ◌≤◌, Bool, true, false, cond, eqb, List, [], ◌∷◌, ◌++◌, length, get_or, take, drop, set, length-take, nat_lt, slice_index, slice_set, is_some, Some, None, Option, Ok, Err, Result, sym, refl, ap, ◌∙◌, subst, inl, inr, arith}
+use Rattle.std.proofs.Common.{◌≡◌, ℕ, zero, suc, ◌+◌, ◌<◌, ◌≤◌, Bool, true, false, cond, eqb, List, [], ◌∷◌, ◌++◌, length, get_or, take, drop, set, length-take, nat_lt, slice_index, slice_set, is_some, Some, None, Option, Ok, Err, sym, refl, ap, ◌∙◌, subst, inl, inr, arith}
 use Rattle.std.proofs.lemmas.Bool.{both_ways, cases_eq, eq-eqb, lt-ltb, ltb-true, ne_eqb}
 use Rattle.std.proofs.lemmas.Grind.{get_or-set_at}
 use Rattle.std.proofs.lemmas.List.{get_or-set_other, length-set, take_more}
@@ -26,7 +26,7 @@ use Rattle.session.specs.Calls.{Reply, after_call, answer_to, posted, put_done, 
 use Rattle.session.specs.Causes.{refused}
 use Rattle.session.specs.Globals.{Has, Unlawful, at_index, cell_of}
 use Rattle.session.specs.History.{History, WordsNow, answers_due, changed_by, due, history, post_due, reading_due, set_by, word_after}
-use Rattle.session.specs.Sessions.{Held, at_rest, after_post, or_no_global, post_into, reading_of, lawful_word}
+use Rattle.session.specs.Sessions.{at_rest, after_post, or_no_global, post_into, reading_of, lawful_word}
 
 -- ## The cells of globals
 
@@ -83,9 +83,6 @@ set_word words c w d q = elim (cases_eq d c) [
   | inr e ↦ get_or-set_other words c d w 0 e ∙ sym (ap (λ b. cond b w (slice_index words d)) (ne_eqb c d (λ f. e (sym f))))
 ]
 
-long_set : (words : List ℕ) (c w : ℕ) → length (slice_set words c w) ≡ length words
-long_set words c w = length-set words c w
-
 post_said : (b t : Bool) → t ≡ true → posted (cond b (cond t (Ok tt) (Err (refused StoreFails))) (Err (refused UnlawfulWord))) ≡ cond b (Ok Posted) (Err (refused UnlawfulWord))
 post_said true true e = refl
 post_said true false e = absurd (both_ways false refl e)
@@ -134,7 +131,7 @@ module _ (K : Arithmetic) (rs : List Record) (first : List ℕ) where
     changed : (g : GlobalCell) (w c : ℕ) → cell_of ls g ≡ Some c → K.lawful w ≡ true → Kept ((Post g w, Ok Posted) ∷ h) (slice_set words c w)
     changed g w c e l = record {
       now = (
-        long_set words c w ∙ k.now.0,
+        length-set words c w ∙ k.now.0,
         λ d. set_word words c w d (inside g c e) ∙ (ap (set_by d (Some c) w) (k.now.1 d) ∙ ap (λ o. set_by d o w (word_after ls first h d)) (sym e)),
       );
       lawful = λ i d f. ap (λ o. K.lawful (set_by d o w (word_after ls first h d))) e ∙ either (eqb c d) d (k.lawful i d f);

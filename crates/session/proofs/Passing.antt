@@ -1,10 +1,10 @@
 -- The globals of a script looked at in line order, cell by cell.
-use Rattle.std.proofs.Common.{◌≡◌, ℕ, zero, suc, ◌+◌, ◌*◌, ◌<◌, ◌≤◌, true, false, ◌⊎◌, List, [], ◌∷◌, length, get_or, drop, slice_index, sym, refl, ap, ◌∙◌, subst, inl, inr, arith}
+use Rattle.std.proofs.Common.{◌≡◌, ℕ, zero, suc, ◌+◌, ◌*◌, ◌<◌, ◌≤◌, true, false, List, [], length, get_or, drop, slice_index, sym, ap, ◌∙◌, subst, inl, inr, arith}
 use Rattle.std.proofs.lemmas.Bool.{both_ways, cases_eq, cases_lt}
 use Rattle.kinds.specs.Arithmetic.{Arithmetic}
 use Rattle.lines.specs.declared.records.Line.{Line}
 use Rattle.lines.specs.declared.records.Record.{Record}
-use Rattle.script.specs.Names.{Names, Standing, nothing, cell, cells}
+use Rattle.script.specs.Names.{Names, nothing}
 use Rattle.script.specs.Apart.{globals_of, heads, no_globals, own}
 use Rattle.acceptance.specs.Sheet.{lines_of}
 use Rattle.acceptance.specs.Scopes.{cells_of}

@@ -1,6 +1,6 @@
 -- What a session answers to a list of calls, told by the calls before each: a reading gives the word that was last posted there, else the
 -- first store's.
-use Rattle.std.specs.Prelude.{◌≡◌, ℕ, Bool, true, false, cond, List, [], ◌∷◌, length, Some, None, Ok, Err, Option, Result, slice_index, ◌==◌}
+use Rattle.std.specs.Prelude.{◌≡◌, ℕ, Bool, cond, List, [], ◌∷◌, length, Some, None, Ok, Err, Option, Result, slice_index, ◌==◌}
 use Rattle.kinds.specs.Arithmetic.{Arithmetic}
 use Rattle.lines.specs.declared.records.Line.{Line}
 use Rattle.lines.specs.declared.refusals.Refusal.{Refusal}

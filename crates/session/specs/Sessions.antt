@@ -1,6 +1,6 @@
 -- What the calls of a session answer, and what they leave. The lines are those of the script that is opened; the words are those of the store that
 -- is handed to the call.
-use Rattle.std.specs.Prelude.{◌≡◌, ℕ, ◌<◌, ◌≤◌, Bool, cond, List, length, Some, None, Ok, Err, Option, Result, nat_lt, slice_set}
+use Rattle.std.specs.Prelude.{◌≡◌, ℕ, ◌<◌, ◌≤◌, cond, List, length, Some, None, Ok, Err, Option, Result, nat_lt, slice_set}
 use Rattle.std.specs.List.{slice_get}
 use Rattle.kinds.specs.Arithmetic.{Arithmetic}
 use Rattle.lines.specs.declared.records.Line.{Line}

@@ -1,6 +1,4 @@
 -- What the state of a session's place stands for.
-use Rattle.std.specs.Prelude.{ℕ, List}
-use Rattle.lines.specs.declared.records.Record.{Record}
 use Rattle.session.specs.declared.sessions.State.{State}
 use Rattle.session.specs.declared.sessions.State.TheVariants.{Unopened, AtRest}
 use Rattle.session.specs.Sessions.{Held, none, at_rest}

@@ -10,7 +10,7 @@ pub loop-record-preserved : goal.loop-record-preserved
 loop-record-preserved c = (
   omega (arith, c.loop-record.invariant.0, c.cells_of-taken.ensures.few),
   subst (λ k. Counted c.args.records.now (c.loop-record.record-index + 1) (c.loop-record.taken + k)) (sym c.cells_of-taken.ensures.is)
-  (counted_turn c.args.records.now c.loop-record.record-index c.loop-record.taken c.loop-record.invariant.1 blank c.loop-record-test.true c.in-Global.name c.in-Global.length c.in-Global.is),
+      (counted_turn c.args.records.now c.loop-record.record-index c.loop-record.taken c.loop-record.invariant.1 blank c.loop-record-test.true c.in-Global.name c.in-Global.length c.in-Global.is),
 )
 
 pub returns-in_default : goal.returns-in_default

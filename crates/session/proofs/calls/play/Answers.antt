@@ -1,9 +1,9 @@
-use Rattle.std.proofs.Common.{◌≡◌, ℕ, ◌<◌, [], ◌∷◌, ◌++◌, length, get_or, take, drop, sym, refl, ap, ◌∙◌, subst, arith}
+use Rattle.std.proofs.Common.{◌≡◌, ◌<◌, [], ◌∷◌, ◌++◌, length, get_or, take, drop, sym, refl, ap, ◌∙◌, subst, arith}
 use Rattle.std.proofs.lemmas.List.{get_or-take, length-take}
 use Rattle.acceptance.specs.Sheet.{lines_of}
 use Rattle.session.specs.Calls.{after_call, answer_to}
 use Rattle.session.specs.History.{WordsNow, answers_due, due, history}
-use Rattle.session.specs.Sessions.{Held, at_rest}
+use Rattle.session.specs.Sessions.{at_rest}
 use Rattle.session.proofs.Histories.{Kept, answers_more, blank, history_more, is_due, keeps, kept_first}
 use Rattle.session.proofs.calls.play.Goals as goal
 

@@ -1,7 +1,6 @@
-use Rattle.std.proofs.Common.{◌≡◌, [], ◌++◌, length, take, drop}
+use Rattle.std.proofs.Common.{◌≡◌, [], ◌++◌, take, drop}
 use Rattle.acceptance.specs.Sheet.{lines_of}
 use Rattle.session.specs.History.{answers_due, history}
-use Rattle.session.specs.Sessions.{at_rest}
 use Rattle.session.proofs.Histories.{Kept}
 use Rattle.session.proofs.calls.play.Given as goal
 
