@@ -58,7 +58,7 @@ each_told (suc i) p q =
     ∙ (ap (λ os. get_or os i None) all_told ∙ get_or-map-range_with_len due 1 25 i (suc i) None (omega arith) (omega arith))
 
 accepted_double : (low high : ℤ) → IsScript low high double → Accepted low high double_records
-accepted_double low high s = accepted low high double double_records s (belonging low high double s double_records refl each_told)
+accepted_double low high s = accepted low high double double_records (omega arith) s (belonging low high double s double_records refl each_told)
 
 script_for_whole : IsScript whole.least whole.most double
 script_for_whole = (accepted_exactly whole.least whole.most double).0.0 refl
