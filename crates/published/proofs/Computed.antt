@@ -23,7 +23,7 @@ use Rattle.published.specs.Cases.{Published}
 use Rattle.published.specs.Scopes.{ToldApart, through_formal, own_locals, static_scope, fixed_index, alias, shadowed_procedure}
 
 -- the statement that a part is
-abbrev the_statement : Part → Statement
+abbrev pub the_statement : Part → Statement
 the_statement (statement s) = s
 the_statement (place p) = assign 0 (simple 0) (constant (pos 0))
 the_statement (expression e) = assign 0 (simple 0) (constant (pos 0))
@@ -31,7 +31,7 @@ the_statement (condition c) = assign 0 (simple 0) (constant (pos 0))
 the_statement (declarations d) = assign 0 (simple 0) (constant (pos 0))
 the_statement other = assign 0 (simple 0) (constant (pos 0))
 
-abbrev text : List Line → Statement
+abbrev pub text : List Line → Statement
 text ls = the_statement (part (line ls) (length ls))
 
 -- a closing that rewriting computes

@@ -1,3 +1,4 @@
 pub mod Double
 pub mod Cases
 pub mod Scopes
+pub mod Session

@@ -1,6 +1,7 @@
 // The table of cases, as the contract of a function: the check then asks for its proof.
 ghost use Rattle.published.specs.Cases.{Published};
 ghost use Rattle.published.specs.Scopes.{ToldApart};
+ghost use Rattle.published.specs.Session.{SessionTold};
 
 pub fn published_cases()
     ensures { Published }
@@ -9,4 +10,9 @@ pub fn published_cases()
 // Small scripts that tell wrong rules apart.
 pub fn scope_cases()
     ensures { ToldApart }
+{}
+
+// A session of the double sheet: what is due to each of its calls.
+pub fn session_case()
+    ensures { SessionTold }
 {}

@@ -357,6 +357,35 @@ module _ (n : ℕ) (g : Globals) (i : Before n g) (few : n ≤ 2049) where
         below_kind g.names first_fresh (own_variable l) (omega arith) ∙ ap start_kind e.2,
       )
 
+-- what the globals are is all that a text's names start from
+module _ (n : ℕ) (g : Globals) (i : Before n g) where
+  global_each : (k : Kind) (ps : List (ℕ × ℕ)) → Each (λ p. (start_kind (g.names p.1) ≡ k) × (p.1 < own n)) ps → Each (λ p. start_kind (g.names p.1) ≡ k) ps
+  global_each k = each_map (λ p. (start_kind (g.names p.1) ≡ k) × (p.1 < own n)) (λ p. start_kind (g.names p.1) ≡ k) (λ p h. h.0)
+
+  global_fits : Fits (λ x. start_kind (g.names x)) g.scope
+  global_fits = record {
+    simples = global_each a_simple g.scope.simples i.simples;
+    arrays = global_each an_array g.scope.arrays i.arrays;
+    procs = each_map (λ p. ⊥) (λ p. start_kind (g.names p.1) ≡ a_procedure) (λ p h. absurd h) g.scope.procs i.procs;
+  }
+
+  global_free : (l : ℕ) → n ≤ l → LineFree (λ x. start_kind (g.names x)) l
+  global_free l h = let e = i.rest l h in (ap start_kind e.0, ap start_kind e.1, ap start_kind e.2)
+
+before_text : (ls : List Line) → Before (past_globals ls) (globals_of ls)
+before_text ls =
+    let e : 1 + length (heads ls) ≡ past_globals ls = omega arith in
+    subst (λ k. Before k (globals_of ls)) e (globals_kept 1 (heads ls) no_globals (record { simples = tt; arrays = tt; procs = tt; rest = λ l h. (refl, refl, refl) }))
+
+pub fine_by_globals : (ls : List Line) (t : Statement) → Scoped (globals_of ls).scope t → EachOnce (declaring_lines t) → Each (λ l. past_globals ls ≤ l) (declaring_lines t)
+    → Fine (λ x. start_kind ((globals_of ls).names x)) (statement_apart (globals_of ls).scope t)
+fine_by_globals ls t scoped once placed =
+    let g = globals_of ls in
+    let i = before_text ls in
+    let κ : Kinds = λ x. start_kind (g.names x) in
+    fine_apart t g.scope κ (global_fits (past_globals ls) g i) scoped once
+    (each_map (λ l. past_globals ls ≤ l) (LineFree κ) (global_free (past_globals ls) g i) (declaring_lines t) placed)
+
 pub fine_told : (ls : List Line) (t : Statement) → past_globals ls ≤ 2049 → Scoped (globals_of ls).scope t → EachOnce (declaring_lines t)
     → Each (λ l. (past_globals ls ≤ l) × (l < 2049)) (declaring_lines t)
     → Fine (start_kinds (globals_of ls).names first_fresh) (statement_apart (globals_of ls).scope t)
@@ -368,7 +397,7 @@ fine_told ls t few scoped once placed =
     g = globals_of ls
 
     i : Before (past_globals ls) g
-    i = let e : 1 + length (heads ls) ≡ past_globals ls = omega arith in subst (λ k. Before k g) e (globals_kept 1 (heads ls) no_globals (record { simples = tt; arrays = tt; procs = tt; rest = λ l h. (refl, refl, refl) }))
+    i = before_text ls
 
 pub told_agrees : ToldAgrees
 told_agrees K size fetch ls t few scoped once placed n level used σ =

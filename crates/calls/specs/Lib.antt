@@ -1,0 +1,6 @@
+pub mod Causes
+pub mod Globals
+pub mod History
+pub mod Answers
+pub mod Standing
+pub mod Laws
