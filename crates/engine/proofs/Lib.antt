@@ -1,0 +1,11 @@
+pub mod Naming
+pub mod Finding
+pub mod Calling
+pub mod Valuing
+pub mod Topping
+pub mod Clearing
+pub mod Acting
+pub mod Pushing
+pub mod Stepping
+pub mod Granting
+pub mod Starting
