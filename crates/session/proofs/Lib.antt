@@ -1,3 +1,5 @@
 pub mod Passing
 pub mod Opened
-pub mod Histories
+pub mod Going
+pub mod Keeping
+pub mod Talking

@@ -5,9 +5,9 @@ use Rattle.kinds.specs.Arithmetic.{Arithmetic}
 use Rattle.lines.specs.declared.records.Line.{Line}
 use Rattle.script.specs.Apart.{globals_of}
 use Rattle.lines.specs.declared.refusals.Refusal.{Refusal}
-use Rattle.session.specs.declared.causes.SessionCause.{SessionCause}
-use Rattle.session.specs.declared.causes.SessionCause.TheVariants.{StoreTooSmall, UnlawfulGlobal, NotAtRest, NoSuchGlobal, UnlawfulWord, StoreFails}
-use Rattle.session.specs.Globals.{FirstUnlawful, Unlawful}
+use Rattle.calls.specs.declared.causes.SessionCause.{SessionCause}
+use Rattle.calls.specs.declared.causes.SessionCause.TheVariants.{StoreTooSmall, UnlawfulGlobal, NotAtRest, NoSuchGlobal, UnlawfulWord, NoSuchRun, WrongGrant, RunIsOver, NoRunLeft, StoreFails}
+use Rattle.calls.specs.Globals.{FirstUnlawful, Unlawful}
 use Rattle.session.specs.Sessions.{Opens, RefusesOpening}
 
 module _ (K : Arithmetic) (ls : List Line) (words : List ℕ) where
@@ -33,6 +33,10 @@ module _ (K : Arithmetic) (ls : List Line) (words : List ℕ) where
   one_of_two NotAtRest n f = absurd f
   one_of_two NoSuchGlobal n f = absurd f
   one_of_two UnlawfulWord n f = absurd f
+  one_of_two NoSuchRun n f = absurd f
+  one_of_two WrongGrant n f = absurd f
+  one_of_two RunIsOver n f = absurd f
+  one_of_two NoRunLeft n f = absurd f
   one_of_two StoreFails n f = absurd f
 
   not_both : (c : SessionCause) (n : ℕ) → (globals_of ls).taken ≤ length words → ((m : ℕ) → ¬ (Unlawful K ls words m)) → RefusesOpening K ls words c n → ⊥

@@ -11,7 +11,7 @@ use Rattle.acceptance.specs.Scopes.{cells_of}
 use Rattle.acceptance.proofs.Cells.{Counted, TellGlobals, cells_in, counted_first, counted_turn, stretch, tell_first, tell_here, tell_more}
 use Rattle.acceptance.proofs.Listing.{heads_more, heads_stop}
 use Rattle.acceptance.proofs.Roles.{names_none, no_name}
-use Rattle.session.specs.Globals.{Has, Unlawful}
+use Rattle.calls.specs.Globals.{Has, Unlawful}
 
 -- the cells from a first one on, below another, hold lawful words
 abbrev pub Lawful : Arithmetic → List ℕ → ℕ → ℕ → Type 0

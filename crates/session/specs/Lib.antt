@@ -1,6 +1,4 @@
-pub mod Causes
-pub mod Globals
 pub mod Sessions
 pub mod States
-pub mod Calls
-pub mod History
+pub mod Runs
+pub mod Promise

@@ -8,16 +8,27 @@ use Rattle.lines.specs.declared.records.Record.{Record}
 use Rattle.lines.specs.declared.refusals.Refusal.{Refusal}
 use Rattle.script.specs.Apart.{globals_of}
 use Rattle.acceptance.specs.Sheet.{lines_of}
-use Rattle.session.specs.declared.causes.SessionCause.{SessionCause}
-use Rattle.session.specs.declared.causes.SessionCause.TheVariants.{StoreTooSmall, UnlawfulGlobal, NotAtRest, NoSuchGlobal, UnlawfulWord, StoreFails}
-use Rattle.session.specs.declared.sessions.GlobalCell.{GlobalCell}
-use Rattle.session.specs.Causes.{refused}
-use Rattle.session.specs.Globals.{FirstUnlawful, Unlawful, cell_of}
+use Rattle.calls.specs.declared.causes.SessionCause.{SessionCause}
+use Rattle.calls.specs.declared.causes.SessionCause.TheVariants.{StoreTooSmall, UnlawfulGlobal, NotAtRest, NoSuchGlobal, UnlawfulWord, NoSuchRun, WrongGrant, RunIsOver, NoRunLeft, StoreFails}
+use Rattle.faults.specs.declared.ending.Ending.{Ending}
+use Rattle.engine.specs.declared.levels.Engine.{Engine}
+use Rattle.calls.specs.declared.asked.GlobalCell.{GlobalCell}
+use Rattle.calls.specs.Causes.{refusal_of}
+use Rattle.calls.specs.Globals.{FirstUnlawful, Unlawful, cell_of}
 
--- What a caller's place for a session holds: none, or one at rest, of the script with those records, with the size that the store had at the opening.
+-- What stays of a session from its opening on: the script's records, the size that the store had then, and how many runs were begun.
+pub record Setting : Type 0 where
+  pub records : List Record
+  pub size : ℕ
+  pub runs : ℕ
+
+-- What a caller's place for a session holds: none; one at rest; one in a run that has begun so many statements, with the engine's levels; or
+-- one with a run that is over, its ending and how many it began.
 pub data Held : Type 0 where
   none : Held
-  at_rest : List Record → ℕ → Held
+  at_rest : Setting → Held
+  running : Setting → ℕ → Engine → Held
+  over : Setting → Ending → ℕ → Held
 
 -- ## Opening
 
@@ -28,6 +39,10 @@ RefusesOpening K ls words UnlawfulGlobal n = ((globals_of ls).taken ≤ length w
 RefusesOpening K ls words NotAtRest n = ⊥
 RefusesOpening K ls words NoSuchGlobal n = ⊥
 RefusesOpening K ls words UnlawfulWord n = ⊥
+RefusesOpening K ls words NoSuchRun n = ⊥
+RefusesOpening K ls words WrongGrant n = ⊥
+RefusesOpening K ls words RunIsOver n = ⊥
+RefusesOpening K ls words NoRunLeft n = ⊥
 RefusesOpening K ls words StoreFails n = ⊥
 
 -- The answer to an opening is right: the store holds all globals and no global an unlawful word; or it is refused, for the lowest line with an
@@ -38,31 +53,33 @@ Opens K ls words (Err r) = RefusesOpening K ls words r.cause r.line
 
 -- what the place holds then, whatever it held before
 abbrev pub after_opening : List Record → List ℕ → Result (Unit {0}) (Refusal SessionCause) → Held
-after_opening rs words (Ok _) = at_rest rs (length words)
+after_opening rs words (Ok _) = at_rest (record { records = rs; size = length words; runs = 0 })
 after_opening rs words (Err _) = none
 
 -- ## Post and reading
 
 -- a cell that has to be there
 abbrev pub or_no_global : Option ℕ → Result ℕ (Refusal SessionCause)
-or_no_global None = Err (refused NoSuchGlobal)
+or_no_global None = Err (refusal_of NoSuchGlobal)
 or_no_global (Some c) = Ok c
 
 -- the cell of a global in a session at rest, or why there is none
 abbrev pub cell_in : Held → GlobalCell → Result ℕ (Refusal SessionCause)
-cell_in none g = Err (refused NotAtRest)
-cell_in (at_rest rs size) g = or_no_global (cell_of (lines_of rs) g)
+cell_in none g = Err (refusal_of NotAtRest)
+cell_in (at_rest o) g = or_no_global (cell_of (lines_of o.records) g)
+cell_in (running o k e) g = Err (refusal_of NotAtRest)
+cell_in (over o d k) g = Err (refusal_of NotAtRest)
 
 -- the word of a cell: the store has to have the cell, and the word to be lawful
 abbrev pub lawful_word : Arithmetic → Option ℕ → Result ℕ (Refusal SessionCause)
-lawful_word K None = Err (refused StoreFails)
-lawful_word K (Some w) = cond (K.lawful w) (Ok w) (Err (refused StoreFails))
+lawful_word K None = Err (refusal_of StoreFails)
+lawful_word K (Some w) = cond (K.lawful w) (Ok w) (Err (refusal_of StoreFails))
 
 module _ (K : Arithmetic) (words : List ℕ) where
   -- a post of the word w into a cell
   abbrev pub post_into : ℕ → Result ℕ (Refusal SessionCause) → Result (Unit {0}) (Refusal SessionCause)
   post_into w (Err r) = Err r
-  post_into w (Ok c) = cond (K.lawful w) (cond (nat_lt c (length words)) (Ok tt) (Err (refused StoreFails))) (Err (refused UnlawfulWord))
+  post_into w (Ok c) = cond (K.lawful w) (cond (nat_lt c (length words)) (Ok tt) (Err (refusal_of StoreFails))) (Err (refusal_of UnlawfulWord))
 
   abbrev pub reading_of : Result ℕ (Refusal SessionCause) → Result ℕ (Refusal SessionCause)
   reading_of (Err r) = Err r

@@ -1,7 +1,8 @@
-// Sessions: a script opened over a store, whose globals are posted to and read.
+// Sessions: a script opened over a store, whose globals are posted to and read, and whose runs are begun, granted and closed.
 #![tactic(auto)]
 
-pub mod calls;
-pub mod causes;
 mod opening;
+pub mod playing;
+pub mod runs;
 pub mod sessions;
+pub mod tickets;

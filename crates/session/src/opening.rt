@@ -2,7 +2,7 @@
 ghost use Rattle.std.specs.Prelude.{◌≡◌, ℕ, ◌+◌, ◌<◌, ◌≤◌, length, slice_index, true, false, MatchOption};
 ghost use Rattle.script.specs.Apart.{globals_of};
 ghost use Rattle.acceptance.specs.Sheet.{lines_of};
-ghost use Rattle.session.specs.Globals.{FirstUnlawful, Unlawful};
+ghost use Rattle.calls.specs.Globals.{FirstUnlawful, Unlawful};
 
 use acceptance::globals::cells_of;
 use kinds::NumberKind;

@@ -2,49 +2,57 @@
 ghost use Rattle.std.specs.Prelude.{◌≡◌, Result};
 ghost use Rattle.lines.specs.declared.refusals.Refusal.{Refusal};
 ghost use Rattle.acceptance.specs.Sheet.{lines_of};
-ghost use Rattle.session.specs.declared.causes.SessionCause.{SessionCause};
+ghost use Rattle.calls.specs.declared.causes.SessionCause.{SessionCause};
 ghost use Rattle.session.specs.Sessions.{Held, none, Opens, after_opening, after_post, cell_in, post_into, reading_of};
+ghost use Rattle.calls.specs.declared.asked.Call.TheVariants.{Post, Reading};
+ghost use Rattle.session.specs.Promise.{Keeps, OpensFor, to_post, to_reading};
 ghost use Rattle.session.specs.States.{held};
 
-use crate::causes::SessionCause;
 use crate::opening::first_unlawful;
-use acceptance::globals::GlobalSort;
 use acceptance::scripts::Script;
+use calls::asked::GlobalCell;
+use calls::causes::SessionCause;
+use engine::Engine;
+use faults::Ending;
 use kinds::NumberKind;
-use lines::records::{Name, Role};
+use lines::records::Role;
 use lines::refusals::Refusal;
 use std::marker::Model;
 use stores::Store;
 
-// A cell of a script's globals.
-#[derive(Clone, Copy, PartialEq, Eq, Debug)]
-pub struct GlobalCell {
-    pub sort: GlobalSort,
-    pub name: Name,
-    // of a simple variable 0
-    pub index: u16,
+// What stays of a session from its opening on, and how many runs were begun.
+#[derive(Drop)]
+pub(crate) struct Opened<'s, 'r, K: NumberKind> {
+    pub script: &'s Script<'r, K>,
+    // that of the store at the opening: a run may take no cell past it
+    pub size: u32,
+    // the number of the last run too
+    pub runs: u32,
 }
 
-#[derive(Drop)]
-enum State<'s, 'r, K: NumberKind> {
-    Unopened,
-    AtRest {
-        script: &'s Script<'r, K>,
-        // that of the store at the opening: a run may take no cell past it
-        size: usize,
-    },
+#[derive(Clone, Copy, PartialEq, Eq, Debug)]
+pub(crate) enum State {
+    AtRest,
+    // in a run that has begun so many statements, with something left to do
+    Running { count: u32 },
+    // with a run that is over
+    Over { ending: Ending, count: u32 },
 }
 
 // A caller's place for a session.
 #[derive(Drop)]
 pub struct Session<'s, 'r, K: NumberKind> {
-    state: State<'s, 'r, K>,
+    // none in a place that is unopened, or whose opening was refused
+    pub(crate) opened: Option<Opened<'s, 'r, K>>,
+    pub(crate) state: State,
+    // the levels of a run
+    pub(crate) engine: Engine,
 }
 
 impl<'s, 'r, K: NumberKind> Model for Session<'s, 'r, K> {
     ghost Value = { Held };
 
-    ghost view = { λ s. held s.state };
+    ghost view = { λ s. held s.opened s.state s.engine };
 }
 
 impl<'s, 'r, K: NumberKind> Session<'s, 'r, K> {
@@ -53,7 +61,9 @@ impl<'s, 'r, K: NumberKind> Session<'s, 'r, K> {
         ensures { result ≡ none }
     {
         Session {
-            state: State::Unopened,
+            opened: None,
+            state: State::AtRest,
+            engine: Engine::at_rest(),
         }
     }
 
@@ -66,8 +76,10 @@ impl<'s, 'r, K: NumberKind> Session<'s, 'r, K> {
         ensures answer { Opens K.kind (lines_of script.now) (S.Store.words store.now) result }
         ensures only { (s : Result (Unit {0}) (Refusal SessionCause)) → Opens K.kind (lines_of script.now) (S.Store.words store.now) s → s ≡ result }
         ensures session { self.new ≡ after_opening script.now (S.Store.words store.now) result }
+        ensures promise { OpensFor K.kind script.now (S.Store.words store.now) result self.new }
     {
-        self.state = State::Unopened;
+        self.opened = None;
+        self.state = State::AtRest;
         if store.size() < script.cells() as usize {
             return Err(SessionCause::StoreTooSmall.refusal());
         }
@@ -77,10 +89,11 @@ impl<'s, 'r, K: NumberKind> Session<'s, 'r, K> {
                 line,
             });
         }
-        self.state = State::AtRest {
+        self.opened = Some(Opened {
             script,
-            size: store.size(),
-        };
+            size: store.size() as u32,
+            runs: 0,
+        });
         Ok(())
     }
 
@@ -88,11 +101,12 @@ impl<'s, 'r, K: NumberKind> Session<'s, 'r, K> {
     fn cell(&self, global: GlobalCell) -> Result<usize, Refusal<SessionCause>>
         ensures { result ≡ cell_in self.now global }
     {
-        let State::AtRest { script, .. } = &self.state else {
+        let (Some(opened), State::AtRest) = (&self.opened, self.state) else {
             return Err(SessionCause::NotAtRest.refusal());
         };
         let no_such_global = SessionCause::NoSuchGlobal.refusal();
-        let declared = script
+        let declared = opened
+            .script
             .global(global.sort, global.name)
             .ok_or(no_such_global)?;
         match declared.role {
@@ -113,16 +127,10 @@ impl<'s, 'r, K: NumberKind> Session<'s, 'r, K> {
     ) -> Result<(), Refusal<SessionCause>>
         ensures answer { result ≡ post_into K.kind (S.Store.words store.old) word (cell_in self.now global) }
         ensures words { S.Store.words store.new ≡ after_post (S.Store.words store.old) (cell_in self.now global) word result }
+        ensures promise { Keeps K.kind (Post global word) self.now (S.Store.words store.old) (to_post result) self.now (S.Store.words store.new) }
         ensures lent { S.Store.lent store.new ≡ S.Store.lent store.old }
     {
-        let cell = self.cell(global)?;
-        if !K::is_lawful(word) {
-            return Err(SessionCause::UnlawfulWord.refusal());
-        }
-        let Ok(()) = store.put(cell, word) else {
-            return Err(SessionCause::StoreFails.refusal());
-        };
-        Ok(())
+        put_word::<K, S>(store, self.cell(global), word)
     }
 
     // The word of a global.
@@ -131,12 +139,42 @@ impl<'s, 'r, K: NumberKind> Session<'s, 'r, K> {
         store: &S,
         global: GlobalCell,
     ) -> Result<u32, Refusal<SessionCause>>
-        ensures { result ≡ reading_of K.kind (S.Store.words store.now) (cell_in self.now global) }
+        ensures answer { result ≡ reading_of K.kind (S.Store.words store.now) (cell_in self.now global) }
+        ensures promise { Keeps K.kind (Reading global) self.now (S.Store.words store.now) (to_reading result) self.now (S.Store.words store.now) }
     {
-        let cell = self.cell(global)?;
-        match store.load(cell) {
-            Some(word) if K::is_lawful(word) => Ok(word),
-            _ => Err(SessionCause::StoreFails.refusal()),
-        }
+        word_of::<K, S>(store, self.cell(global))
+    }
+}
+
+// Puts a word into the cell that was found, if it was.
+fn put_word<K: NumberKind, S: Store>(
+    store: &mut S,
+    cell: Result<usize, Refusal<SessionCause>>,
+    word: u32,
+) -> Result<(), Refusal<SessionCause>>
+    ensures answer { result ≡ post_into K.kind (S.Store.words store.old) word cell }
+    ensures words { S.Store.words store.new ≡ after_post (S.Store.words store.old) cell word result }
+    ensures lent { S.Store.lent store.new ≡ S.Store.lent store.old }
+{
+    let cell = cell?;
+    if !K::is_lawful(word) {
+        return Err(SessionCause::UnlawfulWord.refusal());
+    }
+    let Ok(()) = store.put(cell, word) else {
+        return Err(SessionCause::StoreFails.refusal());
+    };
+    Ok(())
+}
+
+// The word of the cell that was found, if it was.
+fn word_of<K: NumberKind, S: Store>(
+    store: &S,
+    cell: Result<usize, Refusal<SessionCause>>,
+) -> Result<u32, Refusal<SessionCause>>
+    ensures { result ≡ reading_of K.kind (S.Store.words store.now) cell }
+{
+    match store.load(cell?) {
+        Some(word) if K::is_lawful(word) => Ok(word),
+        _ => Err(SessionCause::StoreFails.refusal()),
     }
 }

@@ -1,48 +1,18 @@
 // What calls answer, at rest and where no session is, over the store of the opening and over another one.
-use crate::samples::{INFINITE, LINES, SHEET, bytes_of};
-use acceptance::globals::GlobalSort;
+use crate::samples::{INFINITE, LINES, SHEET, bytes_of, element, post, reading, refused, simple};
 use acceptance::scripts::{Script, ScriptCause, read_script};
+use calls::asked::{Answer, Call};
+use calls::causes::SessionCause;
 use kinds::{NumberKind, Single, Whole};
-use lines::records::{Name, Record};
+use lines::records::Record;
 use lines::refusals::Refusal;
-use session::calls::{Answer, Call, play};
-use session::causes::SessionCause;
-use session::sessions::{GlobalCell, Session};
+use session::playing::{Reply, play};
+use session::sessions::Session;
 use std::test::Fail;
 use stores::{ByteImage, Store, WordTable};
 
-type Answered = Result<Answer, Refusal<SessionCause>>;
-
-fn refused(cause: SessionCause) -> Answered {
-    Err(Refusal { cause, line: 0 })
-}
-
-fn simple(name: Name, index: u16) -> GlobalCell {
-    GlobalCell {
-        sort: GlobalSort::Simple,
-        name,
-        index,
-    }
-}
-
-fn element(name: Name, index: u16) -> GlobalCell {
-    GlobalCell {
-        sort: GlobalSort::Array,
-        name,
-        index,
-    }
-}
-
-fn post(global: GlobalCell, word: u32) -> Call {
-    Call::Post { global, word }
-}
-
-fn reading(global: GlobalCell) -> Call {
-    Call::Reading { global }
-}
-
 // Calls in order over the words 10, 20, 30, 40, and what they answer with singles.
-fn table() -> [(Call, Answered); MANY] {
+fn table() -> [(Call, Reply); MANY] {
     [
         (reading(simple(1, 0)), Ok(Answer::Word(10))),
         (reading(element(2, 2)), Ok(Answer::Word(40))),
@@ -97,19 +67,21 @@ fn calls_over_both_stores(rt: HostRuntime) -> Result<(), Fail> {
 // An opened session over other stores than its own, and one that is not opened.
 fn over_another<K: NumberKind, S: Store>(
     store: &mut S,
-) -> Result<[Answered; 4], Refusal<ScriptCause>> {
+) -> Result<[Reply; 4], Refusal<ScriptCause>> {
     let mut records = [Record::BLANK; LINES];
     let count = read_script::<K>(SHEET.as_bytes(), &mut records)?;
     let script: Script<K> = Script::new(&records[..count]);
     let mut session = Session::unopened();
-    let unopened = session.make(store, post(simple(9, 9), INFINITE));
+    let unopened = session.post(store, simple(9, 9), INFINITE);
     let mut words = WORDS;
     let opened = session.open(&script, &WordTable::new(&mut words));
     Ok([
-        unopened,
+        unopened.map(|_| Answer::Posted),
         opened.map(|_| Answer::Posted),
-        session.make(store, post(element(2, 2), 5)),
-        session.make(store, reading(simple(1, 0))),
+        session
+            .post(store, element(2, 2), 5)
+            .map(|_| Answer::Posted),
+        session.reading(store, simple(1, 0)).map(Answer::Word),
     ])
 }
 

@@ -1,4 +1,4 @@
-// Examples of sessions at rest: every refusal, for both number kinds and over both stores.
+// Examples of sessions: every refusal, for both number kinds and over both stores; published runs, and runs grant by grant.
 #![tactic(auto)]
 
 #[cfg(test)]
@@ -6,4 +6,8 @@ mod calls_made;
 #[cfg(test)]
 mod openings;
 #[cfg(test)]
+mod runs;
+#[cfg(test)]
 mod samples;
+#[cfg(test)]
+mod tickets;

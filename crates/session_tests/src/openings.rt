@@ -2,10 +2,11 @@
 use crate::samples::{INFINITE, LINES, MOST_WORDS, SHEET, Told, bytes_of};
 use acceptance::globals::GlobalSort;
 use acceptance::scripts::{Script, ScriptCause, read_script};
+use calls::asked::GlobalCell;
 use kinds::{NumberKind, Single, Whole};
 use lines::records::Record;
 use lines::refusals::Refusal;
-use session::sessions::{GlobalCell, Session};
+use session::sessions::Session;
 use std::test::Fail;
 use stores::{ByteImage, Store, WordTable};
 

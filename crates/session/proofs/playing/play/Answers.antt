@@ -1,0 +1,57 @@
+use Rattle.std.proofs.Common.{◌≡◌, ◌+◌, ◌<◌, [], ◌∷◌, ◌++◌, length, get_or, set, take, drop, sym, refl, ◌∙◌, subst, subst₂, arith}
+use Rattle.std.proofs.lemmas.List.{get_or-take, length-take, take_more, take_more_set, drop-set-lt}
+use Rattle.calls.proofs.Alike.{alike}
+use Rattle.session.specs.Promise.{Keeps, Talked}
+use Rattle.session.proofs.Talking.{Spoken, blank, one_further, spoken_first, spoken_more, talked}
+use Rattle.session.proofs.playing.play.Goals as goal
+
+pub returns-in_err-open-clause-alike : goal.returns-in_err-open-clause-alike
+returns-in_err-open-clause-alike g c = alike
+
+pub returns-clause-alike : goal.returns-clause-alike
+returns-clause-alike g c = alike
+
+pub loop-i-init : goal.loop-i-init
+loop-i-init g c = ((λ a. spoken_first g.K.NumberKind.kind c.args.script.now a (g.S.Store.words c.args.store.now) c.open.new.self (c.in_ok-open.ensures.promise a)), refl, refl)
+
+pub loop-i-preserved : goal.loop-i-preserved
+loop-i-preserved g c =
+    let K = g.K.NumberKind.kind in
+    let rs = c.args.script.now in
+    let σ = g.S.Store.words c.args.store.now in
+    let qs = c.args.calls.now in
+    let i = c.loop-i.i in
+    let long = length-take c.min-count.result qs in
+    let most = c.min-count.ensures in
+    let h : i < c.min-count.result = omega (arith, long, c.loop-i-test.true) in
+    let there : i < length qs = omega (arith, h, most) in
+    let place : i < length c.loop-i.replies = let e = c.loop-i.auto.replies in omega (arith, h, most, e) in
+    let q = get_or qs i blank in
+    let at : get_or (take c.min-count.result qs) i blank ≡ q = get_or-take c.min-count.result qs i blank h in
+    let promise = subst (λ x. Keeps K x c.loop-i.session (g.S.Store.words c.loop-i.store) c.make.result c.make.new.self (g.S.Store.words c.make.new.store)) at c.make.ensures.promise in
+    let asked : take (i + 1) qs ≡ take i qs ++ q ∷ [] = take_more qs i blank there in
+    let told : take (i + 1) (set c.loop-i.replies i c.make.result) ≡ take i c.loop-i.replies ++ c.make.result ∷ [] = take_more_set c.loop-i.replies i c.make.result place in (
+      (λ a. subst₂ (λ x y. Spoken K rs a σ x y c.make.new.self (g.S.Store.words c.make.new.store)) (sym asked) (sym told)
+          (spoken_more K rs a σ (take i qs) (take i c.loop-i.replies) c.loop-i.session c.make.new.self (g.S.Store.words c.loop-i.store) (g.S.Store.words c.make.new.store)
+          q c.make.result (c.loop-i.invariant.0 a) promise)),
+      drop-set-lt (i + 1) c.loop-i.replies i c.make.result (omega arith) ∙ one_further i c.loop-i.replies c.args.replies.now c.loop-i.invariant.1,
+      c.make.ensures.lent ∙ c.loop-i.invariant.2,
+    )
+
+pub returns-clause-promise : goal.returns-clause-promise
+returns-clause-promise g c =
+    let K = g.K.NumberKind.kind in
+    let rs = c.args.script.now in
+    let σ = g.S.Store.words c.args.store.now in
+    let long = length-take c.min-count.result c.args.calls.now in
+    let most = c.min-count.ensures in
+    let all : c.loop-i.i ≡ c.min-count.result = omega (arith, long, most, c.loop-i-test.false, c.loop-i.auto.i-end) in
+    λ a. subst (λ n. Talked K rs a σ (take n c.args.calls.now) (take n c.loop-i.replies) (g.S.Store.words c.loop-i.store)) all
+    (talked K rs a σ (take c.loop-i.i c.args.calls.now) (take c.loop-i.i c.loop-i.replies) c.loop-i.session (g.S.Store.words c.loop-i.store) (c.loop-i.invariant.0 a))
+
+pub returns-clause-rest : goal.returns-clause-rest
+returns-clause-rest g c =
+    let long = length-take c.min-count.result c.args.calls.now in
+    let most = c.min-count.ensures in
+    let all : c.loop-i.i ≡ c.min-count.result = omega (arith, long, most, c.loop-i-test.false, c.loop-i.auto.i-end) in
+    subst (λ n. drop n c.loop-i.replies ≡ drop n c.args.replies.now) all c.loop-i.invariant.1

@@ -1,0 +1,168 @@
+// The runs of a session: begin, grant and close.
+ghost use Rattle.std.specs.Prelude.{◌≡◌, ◌+◌, ◌≤◌, Some, None, IfOk, IfErr};
+ghost use Rattle.calls.specs.declared.causes.SessionCause.{SessionCause};
+ghost use Rattle.calls.specs.Causes.{refusal_of};
+ghost use Rattle.calls.specs.declared.asked.Call.TheVariants.{Begin, Grant, Close};
+ghost use Rattle.session.specs.Promise.{Keeps, to_begin, to_close, to_grant};
+ghost use Rattle.session.specs.Runs.{AfterBegin, Granted, after_close, begin_answer, close_answer, grant_refusal, numbered, open_ticket, or_begun, unclosed};
+
+use crate::sessions::{Session, State};
+use crate::tickets::{Ticket, Unclosed};
+use calls::causes::SessionCause;
+use engine::State as Reached;
+use faults::Ending;
+use kinds::NumberKind;
+use lines::records::LineNumber;
+use lines::refusals::Refusal;
+use stores::Store;
+
+// Whether something is left to do in a run.
+#[derive(Clone, Copy, PartialEq, Eq, Debug)]
+pub enum RunState {
+    Running,
+    Over,
+}
+
+// How a run ended, and how many statements it began. The global store is what the globals' cells hold.
+#[derive(Clone, Copy, PartialEq, Eq, Debug)]
+pub struct Closing {
+    pub ending: Ending,
+    pub count: u32,
+}
+
+impl<'s, 'r, K: NumberKind> Session<'s, 'r, K> {
+    // Begins a run, from the global store as it is.
+    pub fn begin<S: Store>(&mut self, store: &S) -> Result<Ticket, Refusal<SessionCause>>
+        ensures answer { numbered result ≡ begin_answer self.old }
+        ensures session { AfterBegin self.old (numbered result) self.new }
+        ensures promise { Keeps K.kind Begin self.old (S.Store.words store.now) (to_begin (numbered result)) self.new (S.Store.words store.now) }
+    {
+        let run = self.begin_run()?;
+        Ok(Ticket { run })
+    }
+
+    // The same, by the run's number.
+    pub(crate) fn begin_run(&mut self) -> Result<u32, Refusal<SessionCause>>
+        ensures answer { result ≡ begin_answer self.old }
+        ensures session { AfterBegin self.old result self.new }
+    {
+        let Some(opened) = &mut self.opened else {
+            return Err(SessionCause::NotAtRest.refusal());
+        };
+        match (self.state, opened.runs.checked_add(1)) {
+            (State::AtRest, Some(run)) => {
+                opened.runs = run;
+                let last = opened.script.records().len() as LineNumber;
+                self.engine.start(last, opened.script.cells());
+                self.state = State::Running { count: 0 };
+                Ok(run)
+            }
+            (State::AtRest, None) => Err(SessionCause::NoRunLeft.refusal()),
+            (State::Running { .. } | State::Over { .. }, _) => {
+                Err(SessionCause::NotAtRest.refusal())
+            }
+        }
+    }
+
+    // Lets the run begin that many more statements.
+    pub fn grant<S: Store>(
+        &mut self,
+        store: &mut S,
+        ticket: &Ticket,
+        count: u32,
+    ) -> Result<RunState, Refusal<SessionCause>>
+        ensures refused { (c : SessionCause) → grant_refusal self.old ticket.now.run count ≡ Some c → (result ≡ Err (refusal_of c)) × (self.new ≡ self.old) × (S.Store.words store.new ≡ S.Store.words store.old) }
+        ensures granted { grant_refusal self.old ticket.now.run count ≡ None → Granted K.kind self.old count (S.Store.words store.old) result self.new (S.Store.words store.new) }
+        ensures open { open_ticket self.new ≡ open_ticket self.old }
+        ensures promise { Keeps K.kind (Grant ticket.now.run count) self.old (S.Store.words store.old) (to_grant result) self.new (S.Store.words store.new) }
+        ensures lent { S.Store.lent store.new ≡ S.Store.lent store.old }
+    {
+        self.grant_run(store, ticket.run, count)
+    }
+
+    // The same, by the run's number.
+    pub(crate) fn grant_run<S: Store>(
+        &mut self,
+        store: &mut S,
+        run: u32,
+        count: u32,
+    ) -> Result<RunState, Refusal<SessionCause>>
+        ensures refused { (c : SessionCause) → grant_refusal self.old run count ≡ Some c → (result ≡ Err (refusal_of c)) × (self.new ≡ self.old) × (S.Store.words store.new ≡ S.Store.words store.old) }
+        ensures granted { grant_refusal self.old run count ≡ None → Granted K.kind self.old count (S.Store.words store.old) result self.new (S.Store.words store.new) }
+        ensures open { open_ticket self.new ≡ open_ticket self.old }
+        ensures lent { S.Store.lent store.new ≡ S.Store.lent store.old }
+    {
+        let begun = self.grantable(run, count)?;
+        let Some(opened) = &self.opened else {
+            return Err(SessionCause::NoSuchRun.refusal());
+        };
+        let progress = self.engine.run(opened.script, store, opened.size, count);
+        let count = begun + progress.begun;
+        let ending = match progress.state {
+            Reached::Running => {
+                self.state = State::Running { count };
+                return Ok(RunState::Running);
+            }
+            Reached::Finished => Ending::Finished,
+            Reached::Faulted { fault, line } => Ending::Fault { fault, line },
+        };
+        self.state = State::Over { ending, count };
+        Ok(RunState::Over)
+    }
+
+    // How many statements the run has begun that may be granted so many more.
+    fn grantable(&self, run: u32, count: u32) -> Result<u32, Refusal<SessionCause>>
+        ensures answer { result ≡ or_begun self.now (grant_refusal self.now run count) }
+        ensures most { IfOk result (λ begun. begun + count ≤ 4294967295) }
+    {
+        let Some(opened) = &self.opened else {
+            return Err(SessionCause::NoSuchRun.refusal());
+        };
+        let begun = match (self.state, opened.runs == run) {
+            (State::Running { count }, true) => count,
+            (State::Over { .. }, true) => return Err(SessionCause::RunIsOver.refusal()),
+            _ => return Err(SessionCause::NoSuchRun.refusal()),
+        };
+        if count == 0 || begun.checked_add(count).is_none() {
+            return Err(SessionCause::WrongGrant.refusal());
+        }
+        Ok(begun)
+    }
+
+    // Closes the run, also where something is left to do.
+    pub fn close<S: Store>(&mut self, store: &S, ticket: Ticket) -> Result<Closing, Unclosed>
+        ensures answer { unclosed result ≡ close_answer self.old ticket.run }
+        ensures session { self.new ≡ after_close self.old ticket.run }
+        ensures handed_back { IfErr result (λ refused. refused.ticket.run ≡ ticket.run) }
+        ensures promise { Keeps K.kind (Close ticket.run) self.old (S.Store.words store.now) (to_close (unclosed result)) self.new (S.Store.words store.now) }
+    {
+        match self.close_run(ticket.run) {
+            Ok(closing) => {
+                // spent here, and nowhere else
+                let Ticket { run: _ } = ticket;
+                Ok(closing)
+            }
+            Err(refusal) => Err(Unclosed { ticket, refusal }),
+        }
+    }
+
+    // The same, by the run's number.
+    pub(crate) fn close_run(&mut self, run: u32) -> Result<Closing, Refusal<SessionCause>>
+        ensures answer { result ≡ close_answer self.old run }
+        ensures session { self.new ≡ after_close self.old run }
+    {
+        let Some(opened) = &self.opened else {
+            return Err(SessionCause::NoSuchRun.refusal());
+        };
+        let closing = match (self.state, opened.runs == run) {
+            (State::Running { count }, true) => Closing {
+                ending: Ending::Stopped,
+                count,
+            },
+            (State::Over { ending, count }, true) => Closing { ending, count },
+            _ => return Err(SessionCause::NoSuchRun.refusal()),
+        };
+        self.state = State::AtRest;
+        Ok(closing)
+    }
+}
