@@ -1,64 +1,70 @@
-// Holds reading and acceptance to sheets made elsewhere: says how many are accepted or refused as they should be.
+// Holds the task of a unit's program to sheets made elsewhere: says of how many sheets it writes just the lines that it should, over both stores.
 #![tactic(auto)]
 
 mod cases;
 
-use acceptance::scripts::{Script, ScriptCause, read_script};
-use cases::Cases;
-use kinds::Whole;
+use cases::{Case, Cases};
+use field::field_run;
 use lines::records::Record;
-use lines::refusals::Refusal;
 use sheet::reader::MOST_LINES;
+use std::alloc::Global;
 use std::fs;
+use stores::{ByteImage, Store, WordTable};
+
+const CELLS: usize = 1024;
 
 // How many cases came out as they should, and how many did not.
 #[derive(Drop)]
 struct Tally {
-    accepted: u32,
-    refused: u32,
+    right: u32,
     wrong: u32,
 }
 
 impl Tally {
-    fn count(&mut self, answer: Option<Refusal<u8>>, wanted: Option<Refusal<u8>>) {
-        let counter = if answer != wanted {
-            &mut self.wrong
-        } else if answer.is_some() {
-            &mut self.refused
+    fn count(&mut self, right: bool) {
+        let counter = if right {
+            &mut self.right
         } else {
-            &mut self.accepted
+            &mut self.wrong
         };
         *counter = counter.saturating_add(1);
     }
 }
 
-// The sheet as a script for whole numbers, or why it is none.
-fn script<'r>(
-    sheet: &[u8],
-    records: &'r mut [Record],
-) -> Result<Script<'r, Whole>, Refusal<ScriptCause>> {
-    let count = read_script::<Whole>(sheet, records)?;
-    Ok(Script::new(&records[..count]))
+// Whether the lines of a sheet are those wanted, over a store of zero words.
+fn is_right<S: Store>(
+    heap: Global,
+    case: Case,
+    records: &mut [Record],
+    store: &mut S,
+) -> anyhow::Result<bool> {
+    let lines = field_run(heap, case.sheet, records, store)?;
+    Ok(lines.as_slice() == case.want)
 }
 
 fn main(rt: HostRuntime) -> anyhow::Result<()> {
     let text = fs::read(&rt, "runs.txt")?;
     let mut records = vec![in rt.alloc(); Record::BLANK; MOST_LINES]?;
-    let mut tally = Tally {
-        accepted: 0,
-        refused: 0,
-        wrong: 0,
-    };
+    let mut tables = Tally { right: 0, wrong: 0 };
+    let mut images = Tally { right: 0, wrong: 0 };
     let mut cases = Cases {
         rest: text.as_slice(),
     };
     for case in &mut cases {
-        let refusal = script(case.sheet, &mut records).err();
-        tally.count(refusal.map(|refusal| refusal.numbered()), case.refusal);
+        let mut cells = [0; CELLS];
+        let mut table = WordTable::new(&mut cells);
+        tables.count(is_right(rt.alloc(), case, &mut records, &mut table)?);
+        let mut bytes = [0; 4 * CELLS];
+        let mut image = ByteImage::new(&mut bytes);
+        images.count(is_right(rt.alloc(), case, &mut records, &mut image)?);
     }
     println!(rt;
-        "accepted: {}, refused: {}, wrong: {}",
-        tally.accepted, tally.refused, tally.wrong
+        "over tables: right {}, wrong {}",
+        tables.right, tables.wrong
+    )?;
+    println!(rt;
+        "over images: right {}, wrong {}",
+        images.right, images.wrong
     )?;
     println!(rt; "bytes left: {}", cases.rest.len())?;
     Ok(())

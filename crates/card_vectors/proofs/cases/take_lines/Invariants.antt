@@ -1,5 +1,5 @@
 use Rattle.std.proofs.Common.{◌≤◌, length}
-use Rattle.card_vectors.proofs.cases.take_sheet.Given as goal
+use Rattle.card_vectors.proofs.cases.take_lines.Given as goal
 
 abbrev pub invariant-loop : goal.invariant-loop
 invariant-loop l = length l.rest ≤ length l.lines
