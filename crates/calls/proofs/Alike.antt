@@ -39,9 +39,6 @@ module _ (K : Arithmetic) (ls : List Line) (t : Statement) (size : ℕ) where
       (λ j. only K ls t size (ledger ls first h) e c.1 j ∷ h)
       ∙ (λ j. event_of K ls t size (ledger ls first (i j)) (call_of e) ∷ i j)
 
-  same_history : (f g : List ℕ) → f ≡ g → (h k : History) → Conversation K ls t size f h → Conversation K ls t size g k → map call_of h ≡ map call_of k → h ≡ k
-  same_history f g e h k c d q = is_made f h c ∙ (λ j. made (e j) (q j)) ∙ sym (is_made g k d)
-
   -- the replies to calls in their order
   abbrev pub replies : List ℕ → List Call → List Reply
   replies first qs = reverse (map reply_of (made first (reverse qs)))
@@ -79,6 +76,6 @@ one_reply K ls t size first qs = (replies K ls t size first qs, replied K ls t s
 
 pub alike : Alike
 alike K low high ls s size f g lf lg = (
-  same_history K ls s.text size f g,
-  (λ same. ext_get_or 0 f g (lf ∙ sym lg) (λ c h. same_word K ls s.text size f g same c (named low high ls s c (subst (λ n. c < n) lf h)))),
+  (λ e qs rs. (subst (λ x. Answered K ls s.text size x qs rs) e, subst (λ x. Answered K ls s.text size x qs rs) (sym e))),
+  (λ same. ext_get_or 0 f g (lf ∙ sym lg) (λ c h. same_word K ls s.text size f g (λ qs rs. (same qs rs).0) c (named low high ls s c (subst (λ n. c < n) lf h)))),
 )

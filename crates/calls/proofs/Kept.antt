@@ -11,11 +11,11 @@ use Rattle.script.specs.Apart.{globals_of}
 use Rattle.script.specs.IsScript.{IsScript}
 use Rattle.rule.specs.Rewriting.{Ending, stopped}
 use Rattle.rule.specs.Machine.{Item}
-use Rattle.rule.specs.Closing.{Closing, program_of}
+use Rattle.rule.specs.Closing.{Closing, Closes, program_of}
 use Rattle.rule.specs.Lawful.{LawfulBelow, LawfulWord}
 use Rattle.rule.specs.Handed.{handed, handed_room}
-use Rattle.rule.specs.Resume.{Reached, going, ended, machine_step}
-use Rattle.rule.proofs.Count.{closing}
+use Rattle.rule.specs.Resume.{Reached, going, ended, halted, machine_step}
+use Rattle.rule.proofs.Count.{closing, closes_so}
 use Rattle.rule.proofs.Lawful.{words_get}
 use Rattle.calls.specs.declared.asked.Call.{Call}
 use Rattle.calls.specs.declared.asked.Call.TheVariants.{Post, Reading, Begin, Grant, Close}
@@ -23,7 +23,7 @@ use Rattle.calls.specs.declared.asked.GlobalCell.{GlobalCell}
 use Rattle.calls.specs.declared.causes.SessionCause.TheVariants.{StoreFails}
 use Rattle.calls.specs.Globals.{cell_of}
 use Rattle.calls.specs.History.{Event, refused, posted, read, began, granted, closed, Open, Ledger, after, more, put_into}
-use Rattle.calls.specs.Answers.{largest}
+use Rattle.calls.specs.Answers.{GlobalsHeld, largest}
 use Rattle.calls.proofs.Due.{begin_event, close_event, close_in, event_of, grant_event, grant_in, over, post_event, reading_event}
 use Rattle.calls.specs.Standing.{Phase, rest, running, over as past, Ran, Stands, run}
 use Rattle.calls.proofs.Model.{Step, at, word_event, reached, posts, reads, begins, goes_on, is_past, grants, ends_so, closes, answer_of}
@@ -266,3 +266,29 @@ module _ (K : Arithmetic) (L : Laws K) (ls : List Line) (s : IsScript K.least K.
         (begin_kept p _ n σ refl f)
     kept p n σ f (Grant i m) = grant_kept i m p n σ f
     kept p n σ f (Close i) = close_kept i p n σ f
+
+  -- ## What the globals' cells hold
+
+  module _ (l : Ledger) (σ : List ℕ) where
+    one_run : (o r : Open) → l.run ≡ Some o → l.run ≡ Some r → o ≡ r
+    one_run o r e f = let w : ◌≡◌ {A = Option Open} (Some o) (Some r) = sym e ∙ f in cc
+
+    no_run : (o : Open) → l.run ≡ Some o → l.run ≡ None → ⊥
+    no_run o e f = let w : ◌≡◌ {A = Option Open} (Some o) None = sym e ∙ f in let z : ◌≡◌ {A = ℕ} 0 1 = cc in omega arith
+
+    in_run_holds : (o : Open) (x : Reached Item (List ℕ)) → l.run ≡ Some o → Ran K ls s.text size o.from o.granted x → (r : Open) (c : Closing) → l.run ≡ Some r
+        → Closes K (program_of ls s.text) size r.from r.granted c → take (globals_of ls).taken (halted (λ σ. σ) x).store ≡ c.globals
+    in_run_holds o x e w r c f k =
+        let closes : Closes K (program_of ls s.text) size o.from o.granted c = subst (λ y. Closes K (program_of ls s.text) size y.from y.granted c) (sym (one_run o r e f)) k in
+        sym (ap (λ d. d.globals) (closes_so K (program_of ls s.text) size o.from o.granted c closes ∙ closing_is K L ls s few size room o.from o.granted x w))
+
+    pub globals_held : (p : Phase) (n : ℕ) → On l p n σ → GlobalsHeld K ls s.text size l σ
+    globals_held rest n f = record { between = λ e. f.matches.globals; within = λ r c e k. absurd (no_run r e f.matches.is) }
+    globals_held (running ps k) n f = record {
+      between = λ e. absurd (no_run f.matches.open_run f.matches.is e);
+      within = λ r c e k. in_run_holds f.matches.open_run (going ps σ) f.matches.is f.matches.ran r c e k;
+    }
+    globals_held (past d k) n f = record {
+      between = λ e. absurd (no_run f.matches.open_run f.matches.is e);
+      within = λ r c e k. in_run_holds f.matches.open_run (ended d f.matches.left σ) f.matches.is f.matches.ran r c e k;
+    }

@@ -1,8 +1,9 @@
 -- What is due to each call of a session, told by the calls before it and by the copy rule over whole runs.
-use Rattle.std.specs.Prelude.{◌≡◌, ℕ, ◌+◌, ◌<◌, ◌≤◌, true, false, List, [], ◌∷◌, map, reverse, Some, None, slice_index}
+use Rattle.std.specs.Prelude.{◌≡◌, ℕ, ◌+◌, ◌<◌, ◌≤◌, true, false, List, [], ◌∷◌, map, reverse, Some, None, take, slice_index}
 use Rattle.kinds.specs.Arithmetic.{Arithmetic}
 use Rattle.lines.specs.declared.records.Line.{Line}
 use Rattle.script.specs.Script.{Statement}
+use Rattle.script.specs.Apart.{globals_of}
 use Rattle.rule.specs.Closing.{Closing, Closes, IsOver, program_of}
 use Rattle.calls.specs.declared.asked.Call.{Call}
 use Rattle.calls.specs.declared.asked.Call.TheVariants.{Post, Reading, Begin, Grant, Close}
@@ -64,6 +65,12 @@ module _ (K : Arithmetic) (ls : List Line) (t : Statement) (size : ℕ) where
       -- close
       close_no_run : {k : ℕ} → NoRun k → Due (refused (Close k) NoSuchRun)
       close_done : {k : ℕ} {r : Open} {c : Closing} → Runs k r → Closes K (program_of ls t) size r.from r.granted c → Due (closed k c)
+
+  -- What the globals' cells hold, where σ are the words of the store that each call is handed: between runs the global store; in a run, what the copy
+  -- rule's closing has with the statements granted so far.
+  pub record GlobalsHeld (s : Ledger) (σ : List ℕ) : Type 0 where
+    pub between : AtRest s → take (globals_of ls).taken σ ≡ s.globals
+    pub within : (r : Open) (c : Closing) → InRun s r → Closes K (program_of ls t) size r.from r.granted c → take (globals_of ls).taken σ ≡ c.globals
 
   -- each call got what was due to it after those before, in a session that opened with those words of the globals
   abbrev pub Conversation : List ℕ → History → Type 0

@@ -26,7 +26,7 @@ meaning_of NoSuchRun = codes "the ticket is of no open run"
 meaning_of WrongGrant = codes "the grant is of nothing, or of too much"
 meaning_of RunIsOver = codes "the run is over"
 meaning_of NoRunLeft = codes "no run is left to begin"
-meaning_of StoreFails = codes "the store refuses the place, or holds an unlawful word"
+meaning_of StoreFails = codes "the store refuses a place or holds an unlawful word"
 
 -- a refusal for which no line is at fault
 abbrev pub refusal_of : SessionCause → Refusal SessionCause

@@ -1,5 +1,5 @@
--- When a session and the words of its store stand after some calls. Nothing here needs to be believed: every call keeps it, from the opening
--- on, and what the calls answer is told by `Conversation` (Answers).
+-- When a session and the words of its store stand after some calls: what the proofs keep from call to call. Nothing here needs to be believed: what the
+-- calls answer is told by `Conversation`, and what the globals' cells hold by `GlobalsHeld` (Answers).
 use Rattle.std.specs.Prelude.{◌≡◌, ℕ, ◌-◌, ◌≤◌, List, length, take, Some, None}
 use Rattle.kinds.specs.Arithmetic.{Arithmetic}
 use Rattle.lines.specs.declared.records.Line.{Line}

@@ -44,7 +44,7 @@ impl SessionCause {
             SessionCause::WrongGrant => "the grant is of nothing, or of too much",
             SessionCause::RunIsOver => "the run is over",
             SessionCause::NoRunLeft => "no run is left to begin",
-            SessionCause::StoreFails => "the store refuses the place, or holds an unlawful word",
+            SessionCause::StoreFails => "the store refuses a place or holds an unlawful word",
         }
     }
 

@@ -20,7 +20,7 @@ meaning_of ZeroDivisor = codes "a zero divisor"
 meaning_of NoElement = codes "no such element of an array"
 meaning_of TooDeep = codes "more than 512 levels"
 meaning_of NoCells = codes "no cells left"
-meaning_of Refused = codes "another store than the run goes on with"
+meaning_of Refused = codes "the store refuses a place or holds an unlawful word"
 
 -- a fault of arithmetic is one of a run
 abbrev pub of_arithmetic : ArithmeticFault → Fault

@@ -13,8 +13,7 @@ pub enum Fault {
     NoElement = 23,
     TooDeep = 24,
     NoCells = 25,
-    // what was handed over is not what the run goes on with: the store refuses a place or holds a word that is none of the kind's,
-    // or the records are another script's
+    // the store that was handed over refuses a place, or holds an unlawful word
     Refused = 26,
 }
 
@@ -50,7 +49,7 @@ impl Fault {
             Fault::NoElement => "no such element of an array",
             Fault::TooDeep => "more than 512 levels",
             Fault::NoCells => "no cells left",
-            Fault::Refused => "another store than the run goes on with",
+            Fault::Refused => "the store refuses a place or holds an unlawful word",
         }
     }
 }
