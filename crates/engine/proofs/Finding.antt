@@ -184,11 +184,4 @@ module _ (G : Names) (rs : List Record) where
 
   pub array_global : (fs : List Frame) (k l : ℕ) (ρ : Env) (x b n : ℕ) → FramesStand G rs fs k ρ → Tells G (record { line = l; role = GlobalArray b n }) x → standing G ρ x ≡ cells b n
   array_global fs k l ρ x b n w t = ap (standing G ρ) t.0 ∙ global_stays fs w.0 k l (GlobalArray b n) ρ (free_array b n) t.1 w.1 ∙ t.1
-
   -- a name that is no global's stands for nothing beyond the text
-  pub local_nothing : (l : ℕ) (r : Role) → ((c : ℕ) → r ≡ GlobalSimple c → ⊥) → ((b n : ℕ) → r ≡ GlobalArray b n → ⊥) → RoleRight G l r → G (own_name l r) ≡ nothing
-  local_nothing l Declared f g a = a
-  local_nothing l ValueFormal f g a = a
-  local_nothing l VariableFormal f g a = a
-  local_nothing l (GlobalSimple c) f g a = absurd (f c refl)
-  local_nothing l (GlobalArray b n) f g a = absurd (g b n refl)

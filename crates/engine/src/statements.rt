@@ -1,4 +1,4 @@
-// Beginning a statement, a method for each sort. After a fault the engine's levels stand for nothing.
+// Beginning a statement, a method for each sort. After a fault the engine has nothing left to do.
 ghost use Rattle.std.specs.Prelude.{◌≡◌, ℕ, ◌+◌, ◌<◌, length, List, IfOk, slice_index_or, slice_set};
 ghost use Rattle.kinds.specs.Arithmetic.{Arithmetic};
 ghost use Rattle.lines.specs.declared.records.Line.TheVariants as Says;

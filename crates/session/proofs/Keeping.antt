@@ -1,5 +1,5 @@
 -- Each call keeps what the calls before it left: the code does what the model of a session does.
-use Rattle.std.proofs.Common.{◌≡◌, ℕ, ◌+◌, ◌≤◌, ◌||◌, Bool, true, false, cond, eqb, leb, ltb, List, ◌∷◌, length, nat_lt, slice_set, Some, None, Ok, Err, Option, Result, sym, refl, ap, ap₂, ◌∙◌, subst, arith}
+use Rattle.std.proofs.Common.{◌≡◌, ℕ, ◌+◌, ◌≤◌, ◌||◌, Bool, true, false, cond, eqb, leb, ltb, List, [], ◌∷◌, length, nat_lt, slice_set, Some, None, Ok, Err, Option, Result, sym, refl, ap, ap₂, ◌∙◌, subst, arith}
 use Rattle.std.proofs.lemmas.Bool.{le-ltb, leb-false, leb-true, lt-ltb}
 use Rattle.std.specs.List.{slice_get}
 use Rattle.kinds.specs.Arithmetic.{Arithmetic, Laws}
@@ -30,14 +30,14 @@ use Rattle.calls.specs.Standing.{Phase, rest, running, over, Stands}
 use Rattle.calls.proofs.Model.{Step, answer_of, at, begins, goes_on, ends_so, is_past, posts, reached, reads, word_event}
 use Rattle.calls.proofs.Running.{done}
 use Rattle.calls.proofs.Due.{called, right}
-use Rattle.calls.proofs.Kept.{kept, stands_first}
+use Rattle.calls.proofs.Kept.{globals_held, kept, stands_first}
 use Rattle.calls.proofs.Sessions.{opened_lawful}
 use Rattle.session.specs.declared.runs.Closing.{Closing}
 use Rattle.session.specs.declared.runs.RunState.{RunState}
 use Rattle.session.specs.Sessions as Place
 use Rattle.session.specs.Sessions.{Held, Setting, after_post, cell_in, lawful_word, or_no_global, post_into, reading_of}
 use Rattle.session.specs.Runs.{AfterBegin, Granted, WentOn, after_close, begin_answer, close_answer, closing, grant_refusal}
-use Rattle.session.specs.Promise.{Holds, Keeps, OpensFor, setting, to_begin, to_close, to_grant, to_post, to_reading}
+use Rattle.session.specs.Promise.{Holds, Keeps, OpensFor, global_store, setting, to_begin, to_close, to_grant, to_post, to_reading}
 
 module _ (K : Arithmetic) where
   -- the call q does what the model's does, in every phase
@@ -53,7 +53,8 @@ module _ (K : Arithmetic) where
       let l = ledger ls first h in
       let x : Step = answer_of K ls a.script.text size (at f.phase f.runs words) q in
       let k = kept K L ls a.script few size f.room l f.phase f.runs words f.stands q in
-      let w = m rs a size f.runs f.phase f.holds in (
+      let w = m rs a size f.runs f.phase f.holds in
+      let stands = subst (Stands K ls a.script.text size (ledger ls first (x.1 ∷ h)) x.0.phase x.0.runs) (sym w.2) k.stands in (
         x.1,
         ap call_of k.is ∙ called K ls a.script.text size l q,
         w.0,
@@ -63,7 +64,8 @@ module _ (K : Arithmetic) where
           holds = w.1;
           room = f.room;
           talk = (f.talk, subst (Due K ls a.script.text size l) (sym k.is) (right K ls a.script.text size l q));
-          stands = subst (Stands K ls a.script.text size (ledger ls first (x.1 ∷ h)) x.0.phase x.0.runs) (sym w.2) k.stands;
+          globals = globals_held K L ls a.script few size f.room (ledger ls first (x.1 ∷ h)) words' x.0.phase x.0.runs stands;
+          stands = stands;
         },
       )
 
@@ -275,11 +277,12 @@ pub opens : (K : Arithmetic) → Laws K → (rs : List Record) (words : List ℕ
 opens K L rs words room none a =
     let ls = lines_of rs in
     let few : length ls ≤ 2048 = let e = length-map rs (λ r. r.line) in let few = a.few in omega (arith, e, few) in
-    record {
+    let stands = stands_first K L ls a.script few (length words) room words refl (opened_lawful K K.least K.most ls a.script words room none) in record {
       phase = rest;
       runs = 0;
       holds = refl;
       room = room;
       talk = tt;
-      stands = stands_first K L ls a.script few (length words) room words refl (opened_lawful K K.least K.most ls a.script words room none);
+      globals = globals_held K L ls a.script few (length words) room (ledger ls (global_store rs words) []) words rest 0 stands;
+      stands = stands;
     }

@@ -1,18 +1,15 @@
 -- A list of calls, one more at a time.
-use Rattle.std.proofs.Common.{◌≡◌, ℕ, ◌+◌, List, [], ◌∷◌, ◌++◌, length, map, take, drop, drop-drop, reverse, Some, None, Option, sym, refl, ap, ◌∙◌, arith}
+use Rattle.std.proofs.Common.{◌≡◌, ℕ, ◌+◌, List, [], ◌∷◌, ◌++◌, length, map, drop, drop-drop, reverse, sym, refl, ap, ◌∙◌}
 use Rattle.std.proofs.lemmas.List.{reverse-append}
 use Rattle.kinds.specs.Arithmetic.{Arithmetic}
 use Rattle.lines.specs.declared.records.Record.{Record}
-use Rattle.script.specs.Apart.{globals_of}
-use Rattle.acceptance.specs.Sheet.{lines_of}
 use Rattle.acceptance.specs.Scripts.{Accepted}
 use Rattle.calls.specs.declared.asked.Call.{Call}
 use Rattle.calls.specs.declared.asked.Call.TheVariants.{Post}
 use Rattle.acceptance.specs.declared.globals.GlobalSort.TheVariants.{Simple}
-use Rattle.calls.specs.History.{History, Ledger, Open, Reply, call_of, ledger, reply_of}
-use Rattle.calls.specs.Standing.{Phase, rest, running, over, Matches}
+use Rattle.calls.specs.History.{History, Reply, call_of, reply_of}
 use Rattle.session.specs.Sessions.{Held}
-use Rattle.session.specs.Promise.{Keeps, StandsAfter, Talked}
+use Rattle.session.specs.Promise.{Keeps, StandsAfter, Talked, global_store}
 
 -- a call to look up by default
 abbrev pub blank : Call
@@ -23,43 +20,30 @@ pub one_further : {A : Type 0} (i : ℕ) (us vs : List A) → drop i us ≡ drop
 one_further i us vs e = sym (drop-drop 1 i us) ∙ (ap (drop 1) e ∙ drop-drop 1 i vs)
 
 module _ (K : Arithmetic) (rs : List Record) (a : Accepted K.least K.most rs) (σ : List ℕ) where
-  abbrev first : List ℕ
-  first = take (globals_of (lines_of rs)).taken σ
-
   -- after the calls qs, which got those replies, the session and the words of its store stand
   pub record Spoken (qs : List Call) (replies : List Reply) (held : Held) (words : List ℕ) : Type 0 where
     pub history : History
     pub asked : map call_of history ≡ reverse qs
     pub told : map reply_of history ≡ reverse replies
-    pub stands : StandsAfter K rs a (length σ) first history held words
+    pub stands : StandsAfter K rs a (length σ) (global_store rs σ) history held words
 
-  pub spoken_first : (held : Held) → StandsAfter K rs a (length σ) first [] held σ → Spoken [] [] held σ
+  pub spoken_first : (held : Held) → StandsAfter K rs a (length σ) (global_store rs σ) [] held σ → Spoken [] [] held σ
   spoken_first held s = record { history = []; asked = refl; told = refl; stands = s }
 
   -- with one call more, by the promise of that call
   pub spoken_more : (qs : List Call) (replies : List Reply) (held held' : Held) (words words' : List ℕ) (q : Call) (r : Reply)
       → Spoken qs replies held words → Keeps K q held words r held' words' → Spoken (qs ++ q ∷ []) (replies ++ r ∷ []) held' words'
   spoken_more qs replies held held' words words' q r s k =
-      let w = k rs a (length σ) first s.history s.stands in record {
+      let w = k rs a (length σ) (global_store rs σ) s.history s.stands in record {
         history = w.0 ∷ s.history;
         asked = (λ j. w.1 j ∷ s.asked j) ∙ sym (reverse-append qs (q ∷ []));
         told = (λ j. w.2 j ∷ s.told j) ∙ sym (reverse-append replies (r ∷ []));
         stands = w.3;
       }
 
-  some_none : (r : Open) → ◌≡◌ {A = Option Open} (Some r) None → ⊥
-  some_none r e = let z : ◌≡◌ {A = ℕ} 0 1 = cc in omega arith
-
-  -- between runs the globals' cells hold the global store
-  at_rest : (l : Ledger) (p : Phase) (words : List ℕ) → Matches K (lines_of rs) a.script.text (length σ) l p words → l.run ≡ None
-      → take (globals_of (lines_of rs)).taken words ≡ l.globals
-  at_rest l rest words m e = m.globals
-  at_rest l (running ps k) words m e = absurd (some_none m.open_run (sym m.is ∙ e))
-  at_rest l (over d k) words m e = absurd (some_none m.open_run (sym m.is ∙ e))
-
   pub talked : (qs : List Call) (replies : List Reply) (held : Held) (words : List ℕ) → Spoken qs replies held words → Talked K rs a σ qs replies words
   talked qs replies held words s = record {
     answered = record { history = s.history; talk = s.stands.talk; asked = s.asked; told = s.told };
-    globals = at_rest (ledger (lines_of rs) first s.history) s.stands.phase words s.stands.stands.matches;
+    globals = s.stands.globals;
     long = s.stands.stands.long;
   }

@@ -1,6 +1,6 @@
 -- The promise of each call, for callers of any shape: where a session and its store stand after some calls, it gets what is due to it, and they
 -- stand after those calls and this one.
-use Rattle.std.specs.Prelude.{◌≡◌, ℕ, ◌≤◌, List, [], ◌∷◌, length, take, None, Ok, Err, Result}
+use Rattle.std.specs.Prelude.{◌≡◌, ℕ, ◌≤◌, List, [], ◌∷◌, length, take, Ok, Err, Result}
 use Rattle.kinds.specs.Arithmetic.{Arithmetic}
 use Rattle.lines.specs.declared.records.Record.{Record}
 use Rattle.lines.specs.declared.refusals.Refusal.{Refusal}
@@ -15,13 +15,17 @@ use Rattle.calls.specs.declared.asked.Answer.TheVariants.{Posted, Word, Began, R
 use Rattle.calls.specs.declared.asked.Call.{Call}
 use Rattle.calls.specs.declared.causes.SessionCause.{SessionCause}
 use Rattle.calls.specs.History.{Event, History, Reply, call_of, ledger, reply_of}
-use Rattle.calls.specs.Answers.{Answered, Conversation}
+use Rattle.calls.specs.Answers.{Answered, Conversation, GlobalsHeld}
 use Rattle.calls.specs.Standing.{Phase, rest, running, over, Stands}
 use Rattle.session.specs.declared.runs.Closing.{Closing}
 use Rattle.session.specs.declared.runs.RunState.{RunState}
 use Rattle.session.specs.declared.runs.RunState.TheVariants as Run
 use Rattle.session.specs.Sessions as Place
 use Rattle.session.specs.Sessions.{Held, Setting}
+
+-- the words of the globals' cells
+abbrev pub global_store : List Record → List ℕ → List ℕ
+global_store rs σ = take (globals_of (lines_of rs)).taken σ
 
 -- ## What a place holds, by the phase that the calls have come to
 
@@ -36,13 +40,15 @@ module _ (rs : List Record) (size n : ℕ) where
 
 module _ (K : Arithmetic) where
   -- A place and the words of a store stand after the calls h of a session of an accepted script, which was opened over a store of that size with
-  -- the first words in the globals' cells.
+  -- the first words in the globals' cells: each call was what was due, the globals' cells hold what the calls tell, and the place what the proofs keep
+  -- of them.
   pub record StandsAfter (rs : List Record) (a : Accepted K.least K.most rs) (size : ℕ) (first : List ℕ) (h : History) (held : Held) (words : List ℕ) : Type 0 where
     pub phase : Phase
     pub runs : ℕ
     pub holds : Holds rs size runs held phase
     pub room : (globals_of (lines_of rs)).taken ≤ size
     pub talk : Conversation K (lines_of rs) a.script.text size first h
+    pub globals : GlobalsHeld K (lines_of rs) a.script.text size (ledger (lines_of rs) first h) words
     pub stands : Stands K (lines_of rs) a.script.text size (ledger (lines_of rs) first h) phase runs words
 
   -- the call q, with its reply, keeps that; its event is the one that is due (`Conversation`)
@@ -78,15 +84,14 @@ to_close (Err r) = Err r
 
 -- an opened place, and the store that it was opened over, stand after no call
 abbrev pub OpensFor : (K : Arithmetic) → List Record → List ℕ → Result (Unit {0}) (Refusal SessionCause) → Held → Type 0
-OpensFor K rs words (Ok _) held = (a : Accepted K.least K.most rs) → StandsAfter K rs a (length words) (take (globals_of (lines_of rs)).taken words) [] held words
+OpensFor K rs words (Ok _) held = (a : Accepted K.least K.most rs) → StandsAfter K rs a (length words) (global_store rs words) [] held words
 OpensFor K rs words (Err r) held = Unit {0}
 
 -- Calls in order got those replies in a session of an accepted script that was opened over a store with the words σ, each the one that is due
--- after those before it; and between runs the store's cells of the globals, now with the words σ', hold the global store that the calls tell.
+-- after those before it; and the store, now with the words σ', holds in the globals' cells what the calls tell.
 pub record Talked (K : Arithmetic) (rs : List Record) (a : Accepted K.least K.most rs) (σ : List ℕ) (calls : List Call) (replies : List Reply) (σ' : List ℕ) : Type 0 where
-  pub answered : Answered K (lines_of rs) a.script.text (length σ) (take (globals_of (lines_of rs)).taken σ) calls replies
-  pub globals : (ledger (lines_of rs) (take (globals_of (lines_of rs)).taken σ) answered.history).run ≡ None
-      → take (globals_of (lines_of rs)).taken σ' ≡ (ledger (lines_of rs) (take (globals_of (lines_of rs)).taken σ) answered.history).globals
+  pub answered : Answered K (lines_of rs) a.script.text (length σ) (global_store rs σ) calls replies
+  pub globals : GlobalsHeld K (lines_of rs) a.script.text (length σ) (ledger (lines_of rs) (global_store rs σ) answered.history) σ'
   pub long : length σ' ≡ length σ
 
 -- how many calls were made, and what was made of the opening

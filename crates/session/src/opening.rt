@@ -9,7 +9,7 @@ use kinds::NumberKind;
 use lines::records::{Line, Record};
 use stores::Store;
 
-// The first cell with an unlawful word, of so many from one on.
+// A cell with an unlawful word, of so many from one on, if there is one.
 fn unlawful_cell<K: NumberKind, S: Store>(store: &S, first: u32, count: u32) -> Option<usize>
     requires { first + count ≤ length (S.Store.words store.now) }
     ensures { MatchOption result ((c : ℕ) → first ≤ c → c < first + count → K.kind.lawful (slice_index (S.Store.words store.now) c) ≡ true) (λ c. (first ≤ c) × (c < first + count) × (K.kind.lawful (slice_index (S.Store.words store.now) c) ≡ false)) }

@@ -2,7 +2,8 @@
 ghost use Rattle.std.specs.Prelude.{◌≡◌, min, length, take, drop, IfOk, IfErr};
 ghost use Rattle.acceptance.specs.Scripts.{Accepted};
 ghost use Rattle.acceptance.specs.Sheet.{lines_of};
-ghost use Rattle.calls.specs.Laws.{Alike};
+ghost use Rattle.calls.specs.Laws.{Alike, OneReply};
+ghost use Rattle.faults.specs.Known.{ClosingsKnown};
 ghost use Rattle.session.specs.Promise.{Keeps, Talked, calls_made, opening_of, to_begin, to_close, to_grant, to_post, to_reading};
 ghost use Rattle.session.specs.Sessions.{Opens};
 
@@ -70,6 +71,8 @@ impl<'s, 'r, K: NumberKind> Session<'s, 'r, K> {
 }
 
 // Opens a session of a script over a store and makes the calls in order, as many as there are places for replies; it tells how many that were.
+// Where the opening is refused it makes none: there is no session to ask. The clauses `one_reply`, `alike` and `endings` are laws of what is due: there is
+// one list of replies, two sessions reply alike exactly where they opened alike, and no ending is lost where it is told.
 pub fn play<K: NumberKind, S: Store>(
     script: &Script<K>,
     store: &mut S,
@@ -79,7 +82,9 @@ pub fn play<K: NumberKind, S: Store>(
     ensures opening { Opens K.kind (lines_of script.now) (S.Store.words store.old) (opening_of result) }
     ensures count { IfOk result (λ n. n ≡ min (length calls.now) (length replies.old)) }
     ensures promise { (a : Accepted K.kind.least K.kind.most script.now) → IfOk result (λ n. Talked K.kind script.now a (S.Store.words store.old) (take n calls.now) (take n replies.new) (S.Store.words store.new)) }
+    ensures one_reply { OneReply }
     ensures alike { Alike }
+    ensures endings { ClosingsKnown }
     ensures refused { IfErr result (λ _. S.Store.words store.new ≡ S.Store.words store.old) }
     ensures rest { drop (calls_made result) replies.new ≡ drop (calls_made result) replies.old }
     ensures lent { S.Store.lent store.new ≡ S.Store.lent store.old }

@@ -1,6 +1,7 @@
 // The runs of a session: begin, grant and close.
 ghost use Rattle.std.specs.Prelude.{◌≡◌, ◌+◌, ◌≤◌, Some, None, IfOk, IfErr};
 ghost use Rattle.calls.specs.declared.causes.SessionCause.{SessionCause};
+ghost use Rattle.calls.specs.Answers.{largest};
 ghost use Rattle.calls.specs.Causes.{refusal_of};
 ghost use Rattle.calls.specs.declared.asked.Call.TheVariants.{Begin, Grant, Close};
 ghost use Rattle.session.specs.Promise.{Keeps, to_begin, to_close, to_grant};
@@ -113,7 +114,7 @@ impl<'s, 'r, K: NumberKind> Session<'s, 'r, K> {
     // How many statements the run has begun that may be granted so many more.
     fn grantable(&self, run: u32, count: u32) -> Result<u32, Refusal<SessionCause>>
         ensures answer { result ≡ or_begun self.now (grant_refusal self.now run count) }
-        ensures most { IfOk result (λ begun. begun + count ≤ 4294967295) }
+        ensures most { IfOk result (λ begun. begun + count ≤ largest) }
     {
         let Some(opened) = &self.opened else {
             return Err(SessionCause::NoSuchRun.refusal());

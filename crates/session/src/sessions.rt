@@ -26,7 +26,7 @@ pub(crate) struct Opened<'s, 'r, K: NumberKind> {
     pub script: &'s Script<'r, K>,
     // that of the store at the opening: a run may take no cell past it
     pub size: u32,
-    // the number of the last run too
+    // how many runs were begun, which is the last one's number
     pub runs: u32,
 }
 

@@ -1,6 +1,7 @@
 use Rattle.std.proofs.Common.{◌≡◌, ◌+◌, ◌<◌, [], ◌∷◌, ◌++◌, length, get_or, set, take, drop, sym, refl, ◌∙◌, subst, subst₂, arith}
 use Rattle.std.proofs.lemmas.List.{get_or-take, length-take, take_more, take_more_set, drop-set-lt}
-use Rattle.calls.proofs.Alike.{alike}
+use Rattle.calls.proofs.Alike.{alike, one_reply}
+use Rattle.faults.proofs.Known.{closings_known}
 use Rattle.session.specs.Promise.{Keeps, Talked}
 use Rattle.session.proofs.Talking.{Spoken, blank, one_further, spoken_first, spoken_more, talked}
 use Rattle.session.proofs.playing.play.Goals as goal
@@ -10,6 +11,18 @@ returns-in_err-open-clause-alike g c = alike
 
 pub returns-clause-alike : goal.returns-clause-alike
 returns-clause-alike g c = alike
+
+pub returns-in_err-open-clause-one_reply : goal.returns-in_err-open-clause-one_reply
+returns-in_err-open-clause-one_reply g c = one_reply
+
+pub returns-clause-one_reply : goal.returns-clause-one_reply
+returns-clause-one_reply g c = one_reply
+
+pub returns-in_err-open-clause-endings : goal.returns-in_err-open-clause-endings
+returns-in_err-open-clause-endings g c = closings_known
+
+pub returns-clause-endings : goal.returns-clause-endings
+returns-clause-endings g c = closings_known
 
 pub loop-i-init : goal.loop-i-init
 loop-i-init g c = ((λ a. spoken_first g.K.NumberKind.kind c.args.script.now a (g.S.Store.words c.args.store.now) c.open.new.self (c.in_ok-open.ensures.promise a)), refl, refl)
