@@ -9,7 +9,9 @@ pub struct Case<'a> {
     pub sheet: &'a str,
     // the first words of the store
     pub store: &'a str,
-    // a line for each call, the opening first
+    // what the opening should answer
+    pub opening: &'a str,
+    // a line for each call after it
     pub calls: &'a str,
 }
 
@@ -19,12 +21,14 @@ pub fn case_of<'a>(text: &'a str) -> Option<Case<'a>> {
     let (kind, cells) = head.strip_prefix("case ")?.split_once(' ')?;
     let (_, rest) = rest.split_once('\n')?;
     let (sheet, rest) = rest.split_once("store")?;
-    let (store, calls) = rest.split_once('\n')?;
+    let (store, rest) = rest.split_once('\n')?;
+    let (opening, calls) = rest.strip_prefix("open = ")?.split_once('\n')?;
     Some(Case {
         kind,
         cells: cells.parse().ok()?,
         sheet,
         store,
+        opening,
         calls,
     })
 }
@@ -48,11 +52,5 @@ impl<'a> Case<'a> {
             bytes.extend_from_slice(&word.to_le_bytes())?;
         }
         Ok(bytes)
-    }
-
-    // What the opening should answer.
-    pub fn opening(&self) -> &'a str {
-        let line = self.calls.lines().next().unwrap_or("");
-        line.strip_prefix("open = ").unwrap_or("")
     }
 }

@@ -5,6 +5,7 @@ mod cases;
 mod spelling;
 
 use acceptance::scripts::{Script, read_script};
+use anyhow::bail;
 use calls::asked::{Answer, Call};
 use cases::{Case, case_of};
 use kinds::{NumberKind, Single, Whole};
@@ -37,17 +38,19 @@ impl Tally {
     }
 }
 
-// The calls of a list, and the answers that they should get. The opening comes first, and is no call.
+// The calls of a list, and the answers that they should get; an error where a line spells no call.
 fn asked<'a>(heap: Global, case: Case<'a>) -> anyhow::Result<(Vec<Call>, Vec<&'a str>)> {
     let mut calls = Vec::new(heap);
     let mut wanted = Vec::new(heap);
     for line in case.calls.lines() {
-        if let Some((call, want)) = line.split_once(" = ") {
-            if let Some(call) = call_of(heap, call)? {
-                calls.push(call)?;
-                wanted.push(want)?;
-            }
-        }
+        let Some((call, want)) = line.split_once(" = ") else {
+            bail!("a line is no call with its answer");
+        };
+        let Some(call) = call_of(heap, call)? else {
+            bail!("a line spells no call");
+        };
+        calls.push(call)?;
+        wanted.push(want)?;
     }
     Ok((calls, wanted))
 }
@@ -76,11 +79,14 @@ fn is_right<K: NumberKind, S: Store>(
     let (calls, wanted) = asked(heap, case)?;
     let mut replies = vec![in heap; Ok(Answer::Posted); calls.len()]?;
     match play(&script, store, &calls, &mut replies) {
-        Ok(made) => Ok(made == calls.len() && all_spelled(heap, &replies, &wanted)?),
-        Err(refusal) => {
-            let text = refusal_text(heap, refusal)?;
-            Ok(case.calls.starts_with("open = ") && case.opening() == text.as_str())
-        }
+        Ok(made) => Ok(
+            case.opening == "opened"
+                && made == calls.len()
+                && all_spelled(heap, &replies, &wanted)?,
+        ),
+        Err(refusal) => Ok(
+            calls.is_empty() && case.opening == refusal_text(heap, refusal)?.as_str(),
+        ),
     }
 }
 

@@ -7,10 +7,6 @@ use lines::refusals::Refusal;
 use session::playing::Reply;
 use std::alloc::{AllocError, Global};
 
-fn number(word: &str) -> u32 {
-    word.parse().unwrap_or(0)
-}
-
 fn global_of(sort: &str, name: &str, index: &str) -> Option<GlobalCell> {
     Some(GlobalCell {
         sort: match sort {
@@ -23,32 +19,35 @@ fn global_of(sort: &str, name: &str, index: &str) -> Option<GlobalCell> {
     })
 }
 
-// The call that a text spells; the opening is none.
+// The call that some words spell.
+fn spelled(words: &[&str]) -> Option<Call> {
+    match words {
+        ["post", sort, name, index, word] => Some(Call::Post {
+            global: global_of(sort, name, index)?,
+            word: word.parse().ok()?,
+        }),
+        ["reading", sort, name, index] => Some(Call::Reading {
+            global: global_of(sort, name, index)?,
+        }),
+        ["begin"] => Some(Call::Begin),
+        ["grant", ticket, count] => Some(Call::Grant {
+            ticket: ticket.parse().ok()?,
+            count: count.parse().ok()?,
+        }),
+        ["close", ticket] => Some(Call::Close {
+            ticket: ticket.parse().ok()?,
+        }),
+        _ => None,
+    }
+}
+
+// The call that a text spells.
 pub fn call_of(heap: Global, text: &str) -> Result<Option<Call>, AllocError> {
     let mut words = Vec::new(heap);
     for word in text.split(' ') {
         words.push(word)?;
     }
-    Ok(match words.as_slice() {
-        ["post", sort, name, index, word] => {
-            global_of(sort, name, index).map(|global| Call::Post {
-                global,
-                word: number(word),
-            })
-        }
-        ["reading", sort, name, index] => {
-            global_of(sort, name, index).map(|global| Call::Reading { global })
-        }
-        ["begin"] => Some(Call::Begin),
-        ["grant", ticket, count] => Some(Call::Grant {
-            ticket: number(ticket),
-            count: number(count),
-        }),
-        ["close", ticket] => Some(Call::Close {
-            ticket: number(ticket),
-        }),
-        _ => None,
-    })
+    Ok(spelled(&words))
 }
 
 pub fn refusal_text(heap: Global, refusal: Refusal<SessionCause>) -> Result<String, AllocError> {

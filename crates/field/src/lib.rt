@@ -2,6 +2,8 @@
 // written as lines.
 #![tactic(auto)]
 
+ghost use Rattle.std.specs.Prelude.{◌≡◌};
+
 mod report;
 
 use acceptance::globals::GlobalSort;
@@ -55,7 +57,9 @@ pub fn field_run<S: Store>(
     text: &[u8],
     records: &mut [Record],
     store: &mut S,
-) -> anyhow::Result<Vec<u8>> {
+) -> anyhow::Result<Vec<u8>>
+    ensures { S.Store.lent store.new ≡ S.Store.lent store.old }
+{
     let mut lines = Vec::new(heap);
     let count = match read_script::<Whole>(text, records) {
         Ok(count) => count,

@@ -1,4 +1,4 @@
--- The published cases, as one table.
+-- The cases that are published with the sample card, as one table: those of docs/COPY_RULE.md and docs/KINDS.md.
 use Rattle.std.specs.Prelude.{◌≡◌, ℕ, true, false, [], ◌∷◌, pos, negsuc, None, Ok, Err}
 use Rattle.kinds.specs.declared.fault.ArithmeticFault.TheVariants.{OutOfRange}
 use Rattle.kinds.specs.Whole.{whole, word}

@@ -67,7 +67,7 @@ fn calls_over_both_stores(rt: HostRuntime) -> Result<(), Fail> {
 // An opened session over other stores than its own, and one that is not opened.
 fn over_another<K: NumberKind, S: Store>(
     store: &mut S,
-) -> Result<[Reply; 4], Refusal<ScriptCause>> {
+) -> Result<[Reply; 5], Refusal<ScriptCause>> {
     let mut records = [Record::BLANK; LINES];
     let count = read_script::<K>(SHEET.as_bytes(), &mut records)?;
     let script: Script<K> = Script::new(&records[..count]);
@@ -81,6 +81,10 @@ fn over_another<K: NumberKind, S: Store>(
         session
             .post(store, element(2, 2), 5)
             .map(|_| Answer::Posted),
+        // the word may be unlawful too
+        session
+            .post(store, element(2, 2), INFINITE)
+            .map(|_| Answer::Posted),
         session.reading(store, simple(1, 0)).map(Answer::Word),
     ])
 }
@@ -89,28 +93,19 @@ fn over_another<K: NumberKind, S: Store>(
 fn calls_over_another_store(rt: HostRuntime) -> Result<(), Fail> {
     let not_at_rest = refused(SessionCause::NotAtRest);
     let fails = refused(SessionCause::StoreFails);
+    let unlawful = refused(SessionCause::UnlawfulWord);
     let done = Ok(Answer::Posted);
+    let whole = [not_at_rest, done, fails, fails, Ok(Answer::Word(INFINITE))];
+    let single = [not_at_rest, done, fails, unlawful, fails];
     // of three cells, the first unlawful for singles
     let mut cells = [INFINITE, 20, 30];
     let mut table = WordTable::new(&mut cells);
-    assert_eq!(rt;
-        over_another::<Whole, _>(&mut table),
-        Ok([not_at_rest, done, fails, Ok(Answer::Word(INFINITE))])
-    );
-    assert_eq!(rt;
-        over_another::<Single, _>(&mut table),
-        Ok([not_at_rest, done, fails, fails])
-    );
+    assert_eq!(rt; over_another::<Whole, _>(&mut table), Ok(whole));
+    assert_eq!(rt; over_another::<Single, _>(&mut table), Ok(single));
     let mut bytes = bytes_of(&[INFINITE, 20, 30]);
     let mut image = ByteImage::new(&mut bytes[..12]);
-    assert_eq!(rt;
-        over_another::<Whole, _>(&mut image),
-        Ok([not_at_rest, done, fails, Ok(Answer::Word(INFINITE))])
-    );
-    assert_eq!(rt;
-        over_another::<Single, _>(&mut image),
-        Ok([not_at_rest, done, fails, fails])
-    );
+    assert_eq!(rt; over_another::<Whole, _>(&mut image), Ok(whole));
+    assert_eq!(rt; over_another::<Single, _>(&mut image), Ok(single));
     assert_eq!(rt; bytes, bytes_of(&[INFINITE, 20, 30]));
     Ok(())
 }

@@ -1,4 +1,5 @@
-// Examples of sessions: every refusal, for both number kinds and over both stores; published runs, and runs grant by grant.
+// Examples of sessions over both stores: the refusals of calls, in their order, but 19, for which a session would have to begin 4,294,967,295 runs;
+// runs of the sample card, grant by grant; and tickets.
 #![tactic(auto)]
 
 #[cfg(test)]
