@@ -11,8 +11,9 @@ use session::sessions::Session;
 use std::test::Fail;
 use stores::{ByteImage, Store, WordTable};
 
-// Calls in order over the words 10, 20, 30, 40, and what they answer with singles.
-fn table() -> [(Call, Reply); MANY] {
+// Calls in order over the words 10, 20, 30, 40, and what they answer: the last two by whether the last post is accepted, as its word is lawful for
+// whole numbers and not for singles.
+fn table(posted: Reply, last: u32) -> [(Call, Reply); MANY] {
     [
         (reading(simple(1, 0)), Ok(Answer::Word(10))),
         (reading(element(2, 2)), Ok(Answer::Word(40))),
@@ -30,11 +31,8 @@ fn table() -> [(Call, Reply); MANY] {
             post(element(2, 3), INFINITE),
             refused(SessionCause::NoSuchGlobal),
         ),
-        (
-            post(simple(1, 0), INFINITE),
-            refused(SessionCause::UnlawfulWord),
-        ),
-        (reading(simple(1, 0)), Ok(Answer::Word(10))),
+        (post(simple(1, 0), INFINITE), posted),
+        (reading(simple(1, 0)), Ok(Answer::Word(last))),
     ]
 }
 
@@ -43,24 +41,38 @@ const MANY: usize = 14;
 const WORDS: [u32; 4] = [10, 20, 30, 40];
 
 // Makes the calls of the table over a store and tells whether each got its answer.
-fn plays<S: Store>(store: &mut S) -> Result<bool, Refusal<ScriptCause>> {
+fn plays<K: NumberKind, S: Store>(
+    store: &mut S,
+    table: [(Call, Reply); MANY],
+) -> Result<bool, Refusal<ScriptCause>> {
     let mut records = [Record::BLANK; LINES];
-    let count = read_script::<Single>(SHEET.as_bytes(), &mut records)?;
-    let script: Script<Single> = Script::new(&records[..count]);
+    let count = read_script::<K>(SHEET.as_bytes(), &mut records)?;
+    let script: Script<K> = Script::new(&records[..count]);
     let mut answers = [Ok(Answer::Posted); MANY];
-    let calls = table().map(|(call, _)| call);
+    let calls = table.map(|(call, _)| call);
     let made = play(&script, store, &calls, &mut answers);
-    Ok(made == Ok(MANY) && answers == table().map(|(_, answer)| answer))
+    Ok(made == Ok(MANY) && answers == table.map(|(_, answer)| answer))
+}
+
+// The calls over both stores, and what the first cell then holds.
+fn plays_over_both<K: NumberKind>(
+    table: [(Call, Reply); MANY],
+    first: u32,
+) -> Result<bool, Refusal<ScriptCause>> {
+    let mut cells = WORDS;
+    let over_table = plays::<K, _>(&mut WordTable::new(&mut cells), table)?;
+    let mut bytes = bytes_of(&WORDS);
+    let over_image = plays::<K, _>(&mut ByteImage::new(&mut bytes), table)?;
+    let left = [first, 6, 30, 40];
+    Ok(over_table && over_image && cells == left && bytes == bytes_of(&left))
 }
 
 #[test]
 fn calls_over_both_stores(rt: HostRuntime) -> Result<(), Fail> {
-    let mut cells = WORDS;
-    assert_eq!(rt; plays(&mut WordTable::new(&mut cells)), Ok(true));
-    assert_eq!(rt; cells, [10, 6, 30, 40]);
-    let mut bytes = bytes_of(&WORDS);
-    assert_eq!(rt; plays(&mut ByteImage::new(&mut bytes)), Ok(true));
-    assert_eq!(rt; bytes, bytes_of(&[10, 6, 30, 40]));
+    let whole = table(Ok(Answer::Posted), INFINITE);
+    let single = table(refused(SessionCause::UnlawfulWord), 10);
+    assert_eq!(rt; plays_over_both::<Whole>(whole, INFINITE), Ok(true));
+    assert_eq!(rt; plays_over_both::<Single>(single, 10), Ok(true));
     Ok(())
 }
 
