@@ -5,7 +5,7 @@ use Rattle.std.proofs.Math.Seq.{drop-append_seam, take-append_seam}
 use Rattle.lines.specs.declared.records.Line.{Line}
 use Rattle.lines.specs.declared.records.Record.{Record}
 use Rattle.lines.specs.declared.refusals.Cause.{Cause}
-use Rattle.lines.specs.declared.refusals.Refusal.{Refusal}
+use Rattle.text.specs.declared.refusals.Refusal.{Refusal}
 use Rattle.sheet.specs.Reading.{Outcome, answer, filled, or_count, unresolved}
 use Rattle.script.specs.IsScript.{IsScript}
 use Rattle.script.specs.Causes.{Refused, number_of}

@@ -6,7 +6,7 @@ use Rattle.script.specs.Tree.{line, part}
 use Rattle.script.specs.Apart.{past_globals}
 use Rattle.script.specs.Depth.{deepest_allowed, depth}
 use Rattle.script.specs.Causes.{Reason, name_again, number_of, out_of_form, out_of_kind, undeclared}
-use Rattle.lines.specs.declared.refusals.Refusal.{Refusal}
+use Rattle.text.specs.declared.refusals.Refusal.{Refusal}
 use Rattle.acceptance.specs.declared.verdict.SheetCause.{SheetCause}
 use Rattle.acceptance.specs.Verdict.{reason_of, told, Judged}
 use Rattle.script.proofs.Verdict.{accepted_exactly}

@@ -5,7 +5,7 @@ use Rattle.lines.specs.declared.records.Line.{Line}
 use Rattle.lines.specs.declared.records.Record.{Record}
 use Rattle.lines.specs.declared.records.Role.{Role}
 use Rattle.lines.specs.declared.records.Role.TheVariants.{Declared, ValueFormal, VariableFormal, GlobalSimple, GlobalArray}
-use Rattle.lines.specs.declared.refusals.Refusal.{Refusal}
+use Rattle.text.specs.declared.refusals.Refusal.{Refusal}
 use Rattle.sheet.specs.Reading.{Outcome, answer, filled}
 use Rattle.script.specs.Apart.{found, globals_of}
 use Rattle.script.specs.IsScript.{IsScript}

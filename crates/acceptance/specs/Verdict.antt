@@ -5,7 +5,7 @@ use Rattle.script.specs.IsScript.{IsScript}
 use Rattle.script.specs.Causes.{Refused}
 use Rattle.acceptance.specs.declared.verdict.SheetCause.{SheetCause}
 use Rattle.acceptance.specs.declared.verdict.SheetCause.TheVariants.{OutOfForm, NameAgain, Undeclared, TooDeep, OutOfKind}
-use Rattle.lines.specs.declared.refusals.Refusal.{Refusal}
+use Rattle.text.specs.declared.refusals.Refusal.{Refusal}
 use Rattle.script.specs.Causes.{Reason, name_again, number_of, out_of_form, out_of_kind, too_deep, undeclared}
 
 -- the cause that each answer stands for; its number is the one that the causes of a script's refusal have

@@ -2,7 +2,7 @@
 ghost use Rattle.std.specs.Prelude.{◌≡◌, ℕ, ◌≤◌, List, length, IfOk, Result, Some};
 ghost use Rattle.script.specs.Apart.{globals_of};
 ghost use Rattle.lines.specs.declared.records.Record.{Record};
-ghost use Rattle.lines.specs.declared.refusals.Refusal.{Refusal};
+ghost use Rattle.text.specs.declared.refusals.Refusal.{Refusal};
 ghost use Rattle.sheet.specs.Reading.{outcome};
 ghost use Rattle.acceptance.specs.declared.scripts.ScriptCause.{ScriptCause};
 ghost use Rattle.acceptance.specs.Scopes.{HasGlobals};
@@ -14,7 +14,8 @@ use crate::globals::{GlobalSort, Globals, cells_taken};
 use crate::verdict::{SheetCause, accept};
 use kinds::NumberKind;
 use lines::records::{Declaration, Name, Record};
-use lines::refusals::{Cause, Refusal};
+use lines::refusals::Cause;
+use text::refusals::Refusal;
 use sheet::reader::read_lines;
 use std::error::Error;
 use std::fmt;

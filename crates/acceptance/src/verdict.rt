@@ -11,7 +11,7 @@ use crate::resolve::resolve;
 use crate::sheet_lines::Sheet;
 use kinds::NumberKind;
 use lines::records::Record;
-use lines::refusals::Refusal;
+use text::refusals::Refusal;
 use std::error::Error;
 use std::fmt;
 

@@ -3,7 +3,7 @@ use crate::samples::{SHEETS, Told};
 use acceptance::scripts::read_script;
 use kinds::{NumberKind, Single, Whole};
 use lines::records::Record;
-use lines::refusals::Refusal;
+use text::refusals::Refusal;
 use std::alloc::{AllocError, Global};
 use std::test::Fail;
 

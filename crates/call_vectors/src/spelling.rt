@@ -3,7 +3,7 @@ use acceptance::globals::GlobalSort;
 use calls::asked::{Answer, Call, GlobalCell};
 use calls::causes::SessionCause;
 use faults::Ending;
-use lines::refusals::Refusal;
+use text::refusals::Refusal;
 use session::playing::Reply;
 use std::alloc::{AllocError, Global};
 

@@ -1,7 +1,7 @@
 -- A session's calls so far, and what they leave: the globals' words, the open run, and how many runs were begun.
 use Rattle.std.specs.Prelude.{ℕ, ◌+◌, Bool, true, false, List, [], ◌∷◌, Some, None, Ok, Err, Option, Result, slice_set}
 use Rattle.lines.specs.declared.records.Line.{Line}
-use Rattle.lines.specs.declared.refusals.Refusal.{Refusal}
+use Rattle.text.specs.declared.refusals.Refusal.{Refusal}
 use Rattle.rule.specs.Closing.{Closing}
 use Rattle.faults.specs.Endings.{ending_of}
 use Rattle.calls.specs.declared.asked.Answer.{Answer}

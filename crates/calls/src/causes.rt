@@ -2,7 +2,7 @@
 ghost use Rattle.std.specs.Prelude.{◌≡◌, Some};
 ghost use Rattle.calls.specs.Causes.{meaning_of, number_of, refusal_of};
 
-use lines::refusals::Refusal;
+use text::refusals::Refusal;
 use std::error::Error;
 use std::fmt;
 

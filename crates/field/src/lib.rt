@@ -12,7 +12,7 @@ use calls::asked::{Answer, Call, GlobalCell};
 use calls::causes::SessionCause;
 use kinds::Whole;
 use lines::records::{Line, Name, Record};
-use lines::refusals::Refusal;
+use text::refusals::Refusal;
 use report::{line_of, refusal_line, write_line};
 use session::playing::{Reply, play};
 use std::alloc::{AllocError, Global};

@@ -2,7 +2,7 @@
 use acceptance::globals::GlobalSort;
 use calls::asked::{Answer, Call, GlobalCell};
 use faults::Ending;
-use lines::refusals::Refusal;
+use text::refusals::Refusal;
 use session::playing::Reply;
 use std::num::TryFromIntError;
 use text::written::WrittenLine;

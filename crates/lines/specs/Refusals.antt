@@ -1,5 +1,5 @@
 -- The refusals of a sheet's text and lines: the number and the meaning of each.
-use Rattle.std.specs.Prelude.{ℕ, List, ◌++◌, codes, decimal}
+use Rattle.std.specs.Prelude.{ℕ, List, codes}
 use Rattle.lines.specs.declared.refusals.Cause.{Cause}
 use Rattle.lines.specs.declared.refusals.Cause.TheVariants.{TextSize, Form, Field, Kind, Room}
 
@@ -16,7 +16,3 @@ meaning_of Form = codes "the line does not end, or has not just six fields"
 meaning_of Field = codes "a field is not a number of its range"
 meaning_of Kind = codes "the kind is not one known character"
 meaning_of Room = codes "the line is past 2048, or no record is left for it"
-
--- what is told of a refusal: the number of its cause, its line, and what the cause means
-abbrev pub told : ℕ → ℕ → List ℕ → List ℕ
-told number line meaning = decimal number ++ (codes " at line " ++ (decimal line ++ (codes ": " ++ meaning)))

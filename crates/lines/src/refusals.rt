@@ -1,7 +1,6 @@
 // Why a sheet is refused.
-ghost use Rattle.std.specs.Prelude.{◌≡◌, ℕ, Some, None, IfSome};
-ghost use Rattle.std.specs.Fmt.{DisplaysOnOk, DisplaysStyledOnOk, WritesOnOk};
-ghost use Rattle.lines.specs.Refusals.{number_of, meaning_of, told};
+ghost use Rattle.std.specs.Prelude.{◌≡◌, Some};
+ghost use Rattle.lines.specs.Refusals.{number_of, meaning_of};
 
 use std::error::Error;
 use std::fmt;
@@ -49,35 +48,3 @@ impl fmt::Display for Cause {
 }
 
 impl Error for Cause {}
-
-// A cause, and the line at fault. The line is 0 where none is at fault, since that is the number that the programs print.
-#[derive(Clone, Copy, PartialEq, Eq, Debug)]
-pub struct Refusal<C> {
-    pub cause: C,
-    pub line: usize,
-}
-
-impl<C: Into<u8>> Refusal<C> {
-    // The refusal with the number of its cause in the cause's place.
-    pub fn numbered(self) -> Refusal<u8>
-        ensures number { C.converts self.cause result.cause }
-        ensures line { result.line ≡ self.line }
-    {
-        Refusal {
-            cause: self.cause.into(),
-            line: self.line,
-        }
-    }
-}
-
-// Its number, its line and what it means. A bound tells of the number only that `into` may give it, so the text is no `output`, which would be a function of the refusal.
-impl<C: Copy + fmt::Display + Into<u8>> fmt::Display for Refusal<C> {
-    fn fmt<W: fmt::Write>(&self, f: &mut fmt::Formatter<W>) -> fmt::Result
-        ensures writes { DisplaysOnOk W.write_str_gives f.old result None f.new }
-        ensures styled { DisplaysStyledOnOk W.write_str_gives f.old result None f.new }
-        ensures told { (n : ℕ) × C.converts self.now.cause n × IfSome (C.output self.now.cause) (λ meaning. WritesOnOk W.write_str_gives f.old result (told n self.now.line meaning) f.new) }
-    {
-        let number: u8 = self.cause.into();
-        write!(f, "{number} at line {}: {}", self.line, self.cause)
-    }
-}

@@ -1,7 +1,7 @@
 -- A begin starts the machine's run, and a grant goes on with it.
 use Rattle.std.proofs.Common.{◌≡◌, ℕ, ◌+◌, Bool, true, false, cond, List, Some, None, Ok, Err, Option, Result, sym, refl, ap, ap₂, eqb, ◌∙◌, subst, arith}
 use Rattle.kinds.specs.Arithmetic.{Arithmetic}
-use Rattle.lines.specs.declared.refusals.Refusal.{Refusal}
+use Rattle.text.specs.declared.refusals.Refusal.{Refusal}
 use Rattle.rule.specs.Rewriting.{finished, stopped, fault}
 use Rattle.rule.specs.Machine.{Item}
 use Rattle.rule.specs.Resume.{Reached, going, ended}

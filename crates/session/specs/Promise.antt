@@ -3,7 +3,7 @@
 use Rattle.std.specs.Prelude.{◌≡◌, ℕ, ◌≤◌, List, [], ◌∷◌, length, take, Ok, Err, Result}
 use Rattle.kinds.specs.Arithmetic.{Arithmetic}
 use Rattle.lines.specs.declared.records.Record.{Record}
-use Rattle.lines.specs.declared.refusals.Refusal.{Refusal}
+use Rattle.text.specs.declared.refusals.Refusal.{Refusal}
 use Rattle.script.specs.Apart.{globals_of}
 use Rattle.acceptance.specs.Sheet.{lines_of}
 use Rattle.acceptance.specs.Scripts.{Accepted}

@@ -5,7 +5,7 @@ use Rattle.std.specs.List.{slice_get}
 use Rattle.kinds.specs.Arithmetic.{Arithmetic}
 use Rattle.lines.specs.declared.records.Line.{Line}
 use Rattle.lines.specs.declared.records.Record.{Record}
-use Rattle.lines.specs.declared.refusals.Refusal.{Refusal}
+use Rattle.text.specs.declared.refusals.Refusal.{Refusal}
 use Rattle.script.specs.Apart.{globals_of}
 use Rattle.acceptance.specs.Sheet.{lines_of}
 use Rattle.calls.specs.declared.causes.SessionCause.{SessionCause}

@@ -13,7 +13,7 @@ use acceptance::scripts::Script;
 use calls::asked::{Answer, Call};
 use calls::causes::SessionCause;
 use kinds::NumberKind;
-use lines::refusals::Refusal;
+use text::refusals::Refusal;
 use stores::Store;
 
 // What a call gets: an answer, or a refusal.

@@ -14,7 +14,7 @@ use engine::State as Reached;
 use faults::Ending;
 use kinds::NumberKind;
 use lines::records::LineNumber;
-use lines::refusals::Refusal;
+use text::refusals::Refusal;
 use stores::Store;
 
 // Whether something is left to do in a run.

@@ -1,6 +1,6 @@
 // A script's session over a store: opened, and then at rest between runs. The store is handed to each call.
 ghost use Rattle.std.specs.Prelude.{◌≡◌, Result};
-ghost use Rattle.lines.specs.declared.refusals.Refusal.{Refusal};
+ghost use Rattle.text.specs.declared.refusals.Refusal.{Refusal};
 ghost use Rattle.acceptance.specs.Sheet.{lines_of};
 ghost use Rattle.calls.specs.declared.causes.SessionCause.{SessionCause};
 ghost use Rattle.session.specs.Sessions.{Held, none, Opens, after_opening, after_post, cell_in, post_into, reading_of};
@@ -16,7 +16,7 @@ use engine::Engine;
 use faults::Ending;
 use kinds::NumberKind;
 use lines::records::Role;
-use lines::refusals::Refusal;
+use text::refusals::Refusal;
 use std::marker::Model;
 use stores::Store;
 

@@ -2,7 +2,7 @@
 ghost use Rattle.std.specs.Prelude.{◌≡◌};
 
 use calls::causes::SessionCause;
-use lines::refusals::Refusal;
+use text::refusals::Refusal;
 
 // The ticket of a run. It counts by the run's number alone. It is not `Drop`, and only a session makes or spends one: the check refuses a program
 // that lets one go, or makes up its own.

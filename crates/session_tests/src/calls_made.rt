@@ -5,7 +5,7 @@ use calls::asked::{Answer, Call};
 use calls::causes::SessionCause;
 use kinds::{NumberKind, Single, Whole};
 use lines::records::Record;
-use lines::refusals::Refusal;
+use text::refusals::Refusal;
 use session::playing::{Reply, play};
 use session::sessions::Session;
 use std::test::Fail;

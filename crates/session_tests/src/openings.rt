@@ -5,7 +5,7 @@ use acceptance::scripts::{Script, ScriptCause, read_script};
 use calls::asked::GlobalCell;
 use kinds::{NumberKind, Single, Whole};
 use lines::records::Record;
-use lines::refusals::Refusal;
+use text::refusals::Refusal;
 use session::sessions::Session;
 use std::test::Fail;
 use stores::{ByteImage, Store, WordTable};

@@ -6,7 +6,7 @@ use calls::causes::SessionCause;
 use faults::{Ending, Fault};
 use kinds::Whole;
 use lines::records::Record;
-use lines::refusals::Refusal;
+use text::refusals::Refusal;
 use session::playing::{Reply, play};
 use std::test::Fail;
 use stores::{ByteImage, Store, WordTable};

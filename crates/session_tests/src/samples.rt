@@ -3,7 +3,7 @@ use acceptance::globals::GlobalSort;
 use calls::asked::{Call, GlobalCell};
 use calls::causes::SessionCause;
 use lines::records::Name;
-use lines::refusals::Refusal;
+use text::refusals::Refusal;
 use session::playing::Reply;
 
 // Simple variable 1 has cell 0, and array 2 the cells 1 to 3.

@@ -5,7 +5,7 @@ use calls::causes::SessionCause;
 use faults::{Ending, Fault};
 use kinds::Whole;
 use lines::records::Record;
-use lines::refusals::Refusal;
+use text::refusals::Refusal;
 use session::runs::{Closing, RunState};
 use session::sessions::Session;
 use std::test::Fail;

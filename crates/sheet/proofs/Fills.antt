@@ -10,7 +10,7 @@ use Rattle.lines.specs.declared.records.Line.{Line}
 use Rattle.lines.specs.declared.records.Record.{Record}
 use Rattle.lines.specs.declared.refusals.Cause.{Cause}
 use Rattle.lines.specs.declared.refusals.Cause.TheVariants.{Form, Room}
-use Rattle.lines.specs.declared.refusals.Refusal.{Refusal}
+use Rattle.text.specs.declared.refusals.Refusal.{Refusal}
 use Rattle.lines.specs.Reading.{line_reading}
 use Rattle.sheet.specs.Reading.{FirstReads, FirstRefuses, row_reading, reading, Outcome, refused, then_outcome, from_line, or_count, answer, unresolved, filled}
 

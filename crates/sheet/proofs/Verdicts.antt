@@ -6,7 +6,7 @@ use Rattle.text.specs.Lines.{Row, rows}
 use Rattle.lines.specs.declared.records.Line.{Line}
 use Rattle.lines.specs.declared.refusals.Cause.{Cause}
 use Rattle.lines.specs.declared.refusals.Cause.TheVariants.{TextSize}
-use Rattle.lines.specs.declared.refusals.Refusal.{Refusal}
+use Rattle.text.specs.declared.refusals.Refusal.{Refusal}
 use Rattle.sheet.specs.Reading.{reading, Outcome, refused, then_outcome, from_line, sized, outcome, answer}
 use Rattle.sheet.specs.Verdict.{AllRead, FirstRefused, Verdict}
 use Rattle.sheet.proofs.Fills.{lines_step, lines_none}

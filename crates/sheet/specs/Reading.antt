@@ -5,7 +5,7 @@ use Rattle.lines.specs.declared.records.Line.{Line}
 use Rattle.lines.specs.declared.records.Record.{Record}
 use Rattle.lines.specs.declared.refusals.Cause.{Cause}
 use Rattle.lines.specs.declared.refusals.Cause.TheVariants.{TextSize, Form, Room}
-use Rattle.lines.specs.declared.refusals.Refusal.{Refusal}
+use Rattle.text.specs.declared.refusals.Refusal.{Refusal}
 use Rattle.lines.specs.Reading.{line_reading}
 
 -- what line n of a text says, or why it is refused, if there is room for it: it has to be closed, and then to read as `line_reading` says

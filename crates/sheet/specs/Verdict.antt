@@ -5,7 +5,7 @@ use Rattle.text.specs.Lines.{Row, rows}
 use Rattle.lines.specs.declared.records.Line.{Line}
 use Rattle.lines.specs.declared.refusals.Cause.{Cause}
 use Rattle.lines.specs.declared.refusals.Cause.TheVariants.{TextSize}
-use Rattle.lines.specs.declared.refusals.Refusal.{Refusal}
+use Rattle.text.specs.declared.refusals.Refusal.{Refusal}
 use Rattle.sheet.specs.Reading.{reading, sized}
 
 -- of these lines, the first of which is line n, each of the first k is read

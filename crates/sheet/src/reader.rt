@@ -1,15 +1,16 @@
 // The reader: from the text of a sheet to its records.
 ghost use Rattle.std.specs.Prelude.{◌≡◌, ℕ, ◌<◌, ◌≤◌, length, IfErr, IfOk, MatchResult, Result};
 ghost use Rattle.lines.specs.declared.refusals.Cause.{Cause};
-ghost use Rattle.lines.specs.declared.refusals.Refusal.{Refusal};
+ghost use Rattle.text.specs.declared.refusals.Refusal.{Refusal};
 ghost use Rattle.text.specs.Lines.{rows};
 ghost use Rattle.sheet.specs.Reading.{outcome, from_line, answer, filled, FirstReads, FirstRefuses};
 ghost use Rattle.sheet.specs.Verdict.{Verdict};
 
 use lines::reading::read_line;
 use lines::records::{Line, Record};
-use lines::refusals::{Cause, Refusal};
+use lines::refusals::Cause;
 use text::cutting::cut;
+use text::refusals::Refusal;
 
 pub const MOST_BYTES: usize = 65536;
 

@@ -1,16 +1,16 @@
 -- Lines that are written for a reader: a letter and three numbers, as `f,0,0,4`.
 use Rattle.std.specs.Prelude.{ℕ, ◌+◌, cond, List, [], ◌∷◌, ◌++◌, length, take, drop, Some, None, decimal, codes, Option, nat_lt}
 use Rattle.text.specs.declared.written.WrittenLine.{WrittenLine}
-use Rattle.text.specs.declared.written.WriteRefusal.{WriteRefusal}
-use Rattle.text.specs.declared.written.WriteRefusal.TheVariants.{BufferTooShort}
+use Rattle.text.specs.declared.written.WriteCause.{WriteCause}
+use Rattle.text.specs.declared.written.WriteCause.TheVariants.{BufferTooShort}
 
--- the number of a refusal to write
-abbrev pub refusal_number : WriteRefusal → ℕ
-refusal_number BufferTooShort = 20
+-- the number of a cause for which a line is not written
+abbrev pub number_of : WriteCause → ℕ
+number_of BufferTooShort = 20
 
--- what a refusal to write means, in plain words
-abbrev pub refusal_meaning : WriteRefusal → List ℕ
-refusal_meaning BufferTooShort = codes "the buffer is too short for the line"
+-- what it means, in plain words
+abbrev pub meaning_of : WriteCause → List ℕ
+meaning_of BufferTooShort = codes "the buffer is too short for the line"
 
 -- the bytes of a line: its letter, each number after a comma (44), spelled as a sheet's numbers are, and byte 10
 abbrev pub spelling : WrittenLine → List ℕ

@@ -5,4 +5,5 @@ pub mod cutting;
 pub mod fields;
 pub mod lines;
 pub mod numbers;
+pub mod refusals;
 pub mod written;

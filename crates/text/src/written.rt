@@ -1,9 +1,11 @@
 // Lines that are written for a reader: a letter and three numbers, as `f,0,0,4`.
 ghost use Rattle.std.specs.Prelude.{◌≡◌, ℕ, ◌+◌, ◌≤◌, ◌∷◌, ◌++◌, length, Some, if◌then◌else◌, Ok, Err, decimal, nat_le};
-ghost use Rattle.text.specs.Written.{spelling, printed, placed, refusal_number, refusal_meaning};
+ghost use Rattle.text.specs.Refusals.{without_line};
+ghost use Rattle.text.specs.Written.{spelling, printed, placed, number_of, meaning_of};
 ghost use Rattle.arrayvec.specs.ArrayVec.{array_vec_len};
-ghost use Rattle.text.specs.declared.written.WriteRefusal.TheVariants.{BufferTooShort};
+ghost use Rattle.text.specs.declared.written.WriteCause.TheVariants.{BufferTooShort};
 
+use crate::refusals::Refusal;
 use arrayvec::ArrayVec;
 use itoa::Buffer;
 use std::error::Error;
@@ -11,32 +13,32 @@ use std::fmt;
 
 // Why a line is not written.
 #[derive(Clone, Copy, PartialEq, Eq, Debug)]
-pub enum WriteRefusal {
+pub enum WriteCause {
     BufferTooShort = 20,
 }
 
-// The number of a refusal.
-impl From<WriteRefusal> for u8 {
-    ghost from_gives = { λ refusal n. n ≡ refusal_number refusal };
+// The number of a refusal for that cause.
+impl From<WriteCause> for u8 {
+    ghost from_gives = { λ cause n. n ≡ number_of cause };
 
-    fn from(refusal: WriteRefusal) -> u8 {
-        refusal as u8
+    fn from(cause: WriteCause) -> u8 {
+        cause as u8
     }
 }
 
 // What it means, in plain words.
-impl fmt::Display for WriteRefusal {
+impl fmt::Display for WriteCause {
     // by hand: the text is promised, which a derive does not state
-    ghost output = { λ refusal. Some (refusal_meaning refusal) };
+    ghost output = { λ cause. Some (meaning_of cause) };
 
     fn fmt<W: fmt::Write>(&self, f: &mut fmt::Formatter<W>) -> fmt::Result {
         f.write_str(match self {
-            WriteRefusal::BufferTooShort => "the buffer is too short for the line",
+            WriteCause::BufferTooShort => "the buffer is too short for the line",
         })
     }
 }
 
-impl Error for WriteRefusal {}
+impl Error for WriteCause {}
 
 #[derive(Clone, Copy, PartialEq, Eq, Debug)]
 pub struct WrittenLine {
@@ -51,14 +53,14 @@ const MOST_BYTES: usize = 35;
 
 impl WrittenLine {
     // Writes the line at the front of the buffer and gives its length; a buffer that is too short stays as it is.
-    pub fn write(&self, buffer: &mut [u8]) -> Result<usize, WriteRefusal>
-        ensures answer { result ≡ (if nat_le (length (spelling self.now)) (length buffer.old) then Ok (length (spelling self.now)) else Err BufferTooShort) }
+    pub fn write(&self, buffer: &mut [u8]) -> Result<usize, Refusal<WriteCause>>
+        ensures answer { result ≡ (if nat_le (length (spelling self.now)) (length buffer.old) then Ok (length (spelling self.now)) else Err (without_line BufferTooShort)) }
         ensures left { buffer.new ≡ (if nat_le (length (spelling self.now)) (length buffer.old) then placed 0 (spelling self.now) buffer.old else buffer.old) }
     {
         let line = self.bytes();
         let length = line.len();
         if buffer.len() < length {
-            return Err(WriteRefusal::BufferTooShort);
+            return Err(Refusal::without_line(WriteCause::BufferTooShort));
         }
         buffer[..length].copy_from_slice(line.as_slice());
         Ok(length)
