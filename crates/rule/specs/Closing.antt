@@ -1,5 +1,5 @@
 -- What a run of a script comes to: its closing by the copy rule, and the rule's own count.
-use Rattle.std.specs.Prelude.{◌≡◌, ℕ, ◌-◌, ◌<◌, ◌≤◌, Bool, true, List, [], ◌∷◌, ◌++◌, take, replicate, slice_index}
+use Rattle.std.specs.Prelude.{◌≡◌, ℕ, ◌-◌, ◌<◌, ◌≤◌, Bool, true, List, [], ◌∷◌, slice_index}
 use Rattle.kinds.specs.Arithmetic.{Arithmetic}
 use Rattle.script.specs.Script.{Statement}
 use Rattle.lines.specs.declared.records.Line.{Line}
@@ -18,11 +18,11 @@ pub record Program : Type 0 where
   pub taken : ℕ
   pub fresh : ℕ
 
--- a closing: how the run ended, how many statements it began, and the global store
+-- a closing: how the run ended, how many statements it began, and what the store holds then
 pub record Closing : Type 0 where
   pub ending : Ending
   pub count : ℕ
-  pub globals : List ℕ
+  pub store : List ℕ
 
 -- the rule's own store: every place that it looks at is there, and takes every put
 abbrev pub own_fetch : List ℕ → ℕ → Work ℕ
@@ -39,30 +39,31 @@ start P = record { text = P.text; level = 0; used = P.taken } ∷ []
 abbrev pub first_items : Program → List Item
 first_items P = record { text = P.text; level = 0; used = P.taken; env = outside } ∷ []
 
+-- what a run that was allowed n statements closes with
+abbrev pub closing_of : ℕ → Outcome → Closing
+closing_of n (through m s) = record { ending = finished; count = n - m; store = s.store }
+closing_of n (halts e m σ) = record { ending = e; count = n - m; store = σ }
+
 module _ (K : Arithmetic) (P : Program) (size : ℕ) where
-  -- the first situation: the globals' words, and zeros in the other cells
+  -- the first situation, over a store with the words σ
   abbrev pub situation : List ℕ → Situation
-  situation g = record { names = P.names; fresh = P.fresh; store = g ++ replicate (size - P.taken) K.zero }
+  situation σ = record { names = P.names; fresh = P.fresh; store = σ }
 
-  abbrev pub closing_of : ℕ → Outcome → Closing
-  closing_of n (through m s) = record { ending = finished; count = n - m; globals = take P.taken s.store }
-  closing_of n (halts e m σ) = record { ending = e; count = n - m; globals = take P.taken σ }
-
-  -- from the global store g, allowed n statements, the copy rule closes so
+  -- over a store with the words σ, allowed n statements, the copy rule closes so
   abbrev pub Closes : List ℕ → ℕ → Closing → Type 0
-  Closes g n c = (o : Outcome) × Runs K size own_fetch (start P) n (situation g) o × (closing_of n o ≡ c)
+  Closes σ n c = (o : Outcome) × Runs K size own_fetch (start P) n (situation σ) o × (closing_of n o ≡ c)
 
   -- allowed n statements, the run is stopped
   abbrev pub Stopped : List ℕ → ℕ → Type 0
-  Stopped g n = (c : Closing) × Closes g n c × (c.ending ≡ stopped)
+  Stopped σ n = (c : Closing) × Closes σ n c × (c.ending ≡ stopped)
 
   -- m is the rule's own count: the least allowance with which it is not stopped
   abbrev pub OwnCount : List ℕ → ℕ → Type 0
-  OwnCount g m = (Stopped g m → ⊥) × ((k : ℕ) → k < m → Stopped g k)
+  OwnCount σ m = (Stopped σ m → ⊥) × ((k : ℕ) → k < m → Stopped σ k)
 
   -- n reaches the own count
   abbrev pub IsOver : List ℕ → ℕ → Type 0
-  IsOver g n = (m : ℕ) × OwnCount g m × (m ≤ n)
+  IsOver σ n = (m : ℕ) × OwnCount σ m × (m ≤ n)
 
 -- the program of a sheet's lines whose last line is the statement t
 abbrev pub program_of : List Line → Statement → Program

@@ -6,10 +6,10 @@ use Rattle.rule.specs.Closing.{Program, Closing, Closes, Stopped, OwnCount, IsOv
 
 -- a run with an allowance is over exactly where the rule is not stopped, that is decided, and there is at most one own count
 abbrev pub Counted : Type 0
-Counted = (K : Arithmetic) (P : Program) (size : ℕ) (g : List ℕ)
-    → ((n : ℕ) → (IsOver K P size g n → ¬ (Stopped K P size g n)) × (¬ (Stopped K P size g n) → IsOver K P size g n) × Dec (Stopped K P size g n))
-    × ((m n : ℕ) → OwnCount K P size g m → OwnCount K P size g n → m ≡ n)
+Counted = (K : Arithmetic) (P : Program) (size : ℕ) (σ : List ℕ)
+    → ((n : ℕ) → (IsOver K P size σ n → ¬ (Stopped K P size σ n)) × (¬ (Stopped K P size σ n) → IsOver K P size σ n) × Dec (Stopped K P size σ n))
+    × ((m n : ℕ) → OwnCount K P size σ m → OwnCount K P size σ n → m ≡ n)
 
 -- with more allowance a run that is not stopped closes as it did
 abbrev pub Stays : Type 0
-Stays = (K : Arithmetic) (P : Program) (size : ℕ) (g : List ℕ) (n m : ℕ) (c : Closing) → Closes K P size g n c → ¬ (c.ending ≡ stopped) → Closes K P size g (n + m) c
+Stays = (K : Arithmetic) (P : Program) (size : ℕ) (σ : List ℕ) (n m : ℕ) (c : Closing) → Closes K P size σ n c → ¬ (c.ending ≡ stopped) → Closes K P size σ (n + m) c
