@@ -1,8 +1,4 @@
-pub mod Due
 pub mod Named
-pub mod Alike
-pub mod Running
-pub mod Model
-pub mod Kept
-pub mod Sessions
-pub mod Counting
+pub mod Opening
+pub mod Due
+pub mod Replies

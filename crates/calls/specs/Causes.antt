@@ -1,6 +1,5 @@
 -- Why a call of a session is refused: the number and the meaning of each cause.
 use Rattle.std.specs.Prelude.{ℕ, List, codes}
-use Rattle.text.specs.declared.refusals.Refusal.{Refusal}
 use Rattle.calls.specs.declared.causes.SessionCause.{SessionCause}
 use Rattle.calls.specs.declared.causes.SessionCause.TheVariants.{StoreTooSmall, UnlawfulGlobal, NotAtRest, NoSuchGlobal, UnlawfulWord, NoSuchRun, WrongGrant, RunIsOver, NoRunLeft, StoreFails}
 
@@ -27,7 +26,3 @@ meaning_of WrongGrant = codes "the grant is of nothing, or of too much"
 meaning_of RunIsOver = codes "the run is over"
 meaning_of NoRunLeft = codes "no run is left to begin"
 meaning_of StoreFails = codes "the store refuses a place or holds an unlawful word"
-
--- a refusal for which no line is at fault
-abbrev pub refusal_of : SessionCause → Refusal SessionCause
-refusal_of c = record { cause = c; line = 0 }

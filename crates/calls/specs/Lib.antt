@@ -1,5 +1,6 @@
 pub mod Causes
 pub mod Globals
+pub mod Openings
 pub mod History
 pub mod Answers
 pub mod Standing

@@ -1,11 +1,11 @@
 // Why a call of a session is refused.
 ghost use Rattle.std.specs.Prelude.{◌≡◌, Some};
-ghost use Rattle.calls.specs.Causes.{meaning_of, number_of, refusal_of};
+ghost use Rattle.calls.specs.Causes.{meaning_of, number_of};
 
-use text::refusals::Refusal;
 use std::error::Error;
 use std::fmt;
 
+/// Why a call of a session is refused, with the number of each cause.
 #[derive(Clone, Copy, PartialEq, Eq, Debug)]
 pub enum SessionCause {
     StoreTooSmall = 11,
@@ -30,7 +30,7 @@ impl From<SessionCause> for u8 {
 }
 
 impl SessionCause {
-    // What it means, in plain words.
+    /// What it means, in plain words.
     pub fn meaning(self) -> &'static str
         ensures { result.now ≡ meaning_of self }
     {
@@ -45,16 +45,6 @@ impl SessionCause {
             SessionCause::RunIsOver => "the run is over",
             SessionCause::NoRunLeft => "no run is left to begin",
             SessionCause::StoreFails => "the store refuses a place or holds an unlawful word",
-        }
-    }
-
-    // The refusal, with no line at fault.
-    pub fn refusal(self) -> Refusal<SessionCause>
-        ensures { result ≡ refusal_of self }
-    {
-        Refusal {
-            cause: self,
-            line: 0,
         }
     }
 }

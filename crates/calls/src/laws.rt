@@ -1,22 +1,12 @@
 // What is proved of every session's calls, each law on a function's contract: the check then asks for its proof.
-ghost use Rattle.calls.specs.Laws.{Alike, BegunAll, Determined, OneReply};
+ghost use Rattle.calls.specs.Laws.{Determined, OneReply};
 
-// Every call has exactly one event that is due after the calls before it.
+/// Every call has exactly one event that is due after the calls before it.
 pub fn determined()
     ensures { Determined }
 {}
 
-// So every list of calls gets exactly one list of replies.
+/// So every list of calls gets exactly one list of replies.
 pub fn one_reply()
     ensures { OneReply }
-{}
-
-// Two sessions of a script answer alike, whatever is asked, exactly where they opened with the same words in the globals' cells.
-pub fn alike()
-    ensures { Alike }
-{}
-
-// A run that goes on has begun as many statements as it was granted, so that sum is its count.
-pub fn begun_all()
-    ensures { BegunAll }
 {}

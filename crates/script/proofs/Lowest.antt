@@ -15,7 +15,7 @@ Lowest t k n = (n < k) × (t n ≡ true) × NoneBelow t n
 none_some : {A : Type 0} (o : Option A) (a : A) → o ≡ None → o ≡ Some a → ⊥
 none_some o a p q = let z : ◌≡◌ {A = ℕ} 0 1 = cc in omega arith
 
-the_lowest : (t : ℕ → Bool) (k : ℕ) → ((lowest t k ≡ None) × NoneBelow t k) ⊎ ((n : ℕ) × (lowest t k ≡ Some n) × Lowest t k n)
+pub the_lowest : (t : ℕ → Bool) (k : ℕ) → ((lowest t k ≡ None) × NoneBelow t k) ⊎ ((n : ℕ) × (lowest t k ≡ Some n) × Lowest t k n)
 the_lowest t zero = inl (refl, λ m q. absurd (omega arith))
 the_lowest t (suc k) = go (t k) refl (the_lowest t k)
   where

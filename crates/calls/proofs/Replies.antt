@@ -1,19 +1,14 @@
--- Calls get one list of replies, and sessions reply alike exactly where they opened with the same words of the globals.
-use Rattle.std.proofs.Common.{◌≡◌, ℕ, ◌<◌, List, [], ◌∷◌, map, reverse, slice_index, Some, Ok, sym, refl, ap, ◌∙◌, subst}
-use Rattle.std.proofs.lemmas.List.{ext_get_or, reverse-reverse}
+-- Calls get one list of replies.
+use Rattle.std.proofs.Common.{◌≡◌, ℕ, List, [], ◌∷◌, map, reverse, sym, refl, ap, ◌∙◌}
+use Rattle.std.proofs.lemmas.List.{reverse-reverse}
 use Rattle.kinds.specs.Arithmetic.{Arithmetic}
 use Rattle.lines.specs.declared.records.Line.{Line}
 use Rattle.script.specs.Script.{Statement}
-use Rattle.calls.specs.declared.asked.Answer.TheVariants.{Word}
 use Rattle.calls.specs.declared.asked.Call.{Call}
-use Rattle.calls.specs.declared.asked.Call.TheVariants.{Reading}
-use Rattle.calls.specs.declared.asked.GlobalCell.{GlobalCell}
-use Rattle.calls.specs.Globals.{cell_of}
-use Rattle.calls.specs.History.{read, History, Reply, call_of, reply_of, ledger}
-use Rattle.calls.specs.Answers.{reading_done, Conversation, Answered}
-use Rattle.calls.specs.Laws.{Alike, OneReply}
+use Rattle.calls.specs.History.{History, Reply, call_of, reply_of, ledger}
+use Rattle.calls.specs.Answers.{Conversation, Answered}
+use Rattle.calls.specs.Laws.{OneReply}
 use Rattle.calls.proofs.Due.{called, event_of, only, right}
-use Rattle.calls.proofs.Named.{named}
 
 same_lists : {A : Type 0} (us vs : List A) → reverse us ≡ reverse vs → us ≡ vs
 same_lists us vs e = sym (reverse-reverse us) ∙ ap reverse e ∙ reverse-reverse vs
@@ -58,24 +53,5 @@ module _ (K : Arithmetic) (ls : List Line) (t : Statement) (size : ℕ) where
       ∙ ap (map reply_of) (is_made first a.history a.talk ∙ ap (made first) a.asked)
       ∙ sym (reverse-reverse (map reply_of (made first (reverse qs)))))
 
-  -- a word that both read
-  same_word : (f g : List ℕ) → ((qs : List Call) (rs : List Reply) → Answered K ls t size f qs rs → Answered K ls t size g qs rs)
-      → (c : ℕ) → (i : GlobalCell) × (cell_of ls i ≡ Some c) → slice_index f c ≡ slice_index g c
-  same_word f g same c i =
-      let reads : (first : List ℕ) → Answered K ls t size first (Reading i.0 ∷ []) (Ok (Word (slice_index first c)) ∷ []) = λ first. record {
-        history = read i.0 (slice_index first c) ∷ [];
-        talk = (tt, reading_done refl i.1 refl);
-        asked = refl;
-        told = refl;
-      } in
-      let e = replied_so g (Reading i.0 ∷ []) _ (same (Reading i.0 ∷ []) _ (reads f)) ∙ sym (replied_so g (Reading i.0 ∷ []) _ (reads g)) in
-      cc
-
 pub one_reply : OneReply
 one_reply K ls t size first qs = (replies K ls t size first qs, replied K ls t size first qs, replied_so K ls t size first qs)
-
-pub alike : Alike
-alike K low high ls s size f g lf lg = (
-  (λ e qs rs. (subst (λ x. Answered K ls s.text size x qs rs) e, subst (λ x. Answered K ls s.text size x qs rs) (sym e))),
-  (λ same. ext_get_or 0 f g (lf ∙ sym lg) (λ c h. same_word K ls s.text size f g (λ qs rs. (same qs rs).0) c (named low high ls s c (subst (λ n. c < n) lf h)))),
-)
