@@ -1,5 +1,5 @@
 // What is proved of every session's calls, each law on a function's contract: the check then asks for its proof.
-ghost use Rattle.calls.specs.Laws.{Determined, OneReply};
+ghost use Rattle.calls.specs.Laws.{BegunAll, Determined, OneReply};
 
 /// Every call has exactly one event that is due after the calls before it.
 pub fn determined()
@@ -9,4 +9,9 @@ pub fn determined()
 /// So every list of calls gets exactly one list of replies.
 pub fn one_reply()
     ensures { OneReply }
+{}
+
+/// A run that goes on has begun as many statements as it was granted, so that sum is its count.
+pub fn begun_all()
+    ensures { BegunAll }
 {}
