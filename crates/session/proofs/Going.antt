@@ -13,7 +13,7 @@ use Rattle.engine.specs.declared.run.State.{State as Came}
 use Rattle.engine.specs.Running.{CameTo, StandsFor, globals_in, machine_after}
 use Rattle.calls.specs.declared.causes.SessionCause.{SessionCause}
 use Rattle.calls.specs.declared.causes.SessionCause.TheVariants.{NoSuchRun, RunIsOver}
-use Rattle.calls.specs.Causes.{refusal_of}
+use Rattle.text.specs.Refusals.{without_line}
 use Rattle.session.specs.declared.sessions.Opened.{Opened}
 use Rattle.session.specs.declared.sessions.State.{State}
 use Rattle.session.specs.declared.sessions.State.TheVariants.{AtRest, Running, Over}
@@ -86,7 +86,7 @@ granted_there K p q s t e e' old run n begun σ σ' r is view b g =
 
 -- ## The run stays open
 
-ok_err : (n : ℕ) (c : SessionCause) → ◌≡◌ {A = Result ℕ (Refusal SessionCause)} (Err (refusal_of c)) (Ok n) → ⊥
+ok_err : (n : ℕ) (c : SessionCause) → ◌≡◌ {A = Result ℕ (Refusal SessionCause)} (Err (without_line c)) (Ok n) → ⊥
 ok_err n c e = let z : ◌≡◌ {A = ℕ} 0 1 = cc in omega arith
 
 -- a session that may be granted more is in a run

@@ -5,8 +5,8 @@ use Rattle.std.specs.List.{slice_get}
 use Rattle.kinds.specs.Arithmetic.{Arithmetic, Laws}
 use Rattle.lines.specs.declared.records.Record.{Record}
 use Rattle.text.specs.declared.refusals.Refusal.{Refusal}
+use Rattle.text.specs.Refusals.{without_line}
 use lib.ListN.{length-map}
-use Rattle.script.specs.Apart.{globals_of}
 use Rattle.acceptance.specs.Sheet.{lines_of}
 use Rattle.acceptance.specs.Scripts.{Accepted}
 use Rattle.rule.specs.Rewriting.{Ending, stopped}
@@ -18,62 +18,87 @@ use Rattle.faults.proofs.Endings.{endings_told}
 use Rattle.engine.specs.Running.{globals_in, machine_after}
 use Rattle.calls.specs.declared.asked.Answer.TheVariants.{Closed}
 use Rattle.calls.specs.declared.asked.Call.{Call}
-use Rattle.calls.specs.declared.asked.Call.TheVariants.{Post, Reading, Begin, Grant, Close}
+use Rattle.calls.specs.declared.asked.Call.TheVariants.{Open, Post, Reading, Begin, Grant, Close}
 use Rattle.calls.specs.declared.asked.GlobalCell.{GlobalCell}
 use Rattle.calls.specs.declared.causes.SessionCause.{SessionCause}
 use Rattle.calls.specs.declared.causes.SessionCause.TheVariants.{NotAtRest, UnlawfulWord, NoSuchRun, WrongGrant, RunIsOver, NoRunLeft, StoreFails}
-use Rattle.calls.specs.Causes.{refusal_of}
-use Rattle.calls.specs.Globals.{Unlawful, cell_of}
+use Rattle.calls.specs.Globals.{cell_of}
+use Rattle.calls.specs.Openings.{Opens}
 use Rattle.calls.specs.History.{refused, posted, read, granted, Reply, call_of, ledger, reply_of}
 use Rattle.calls.specs.Answers.{Due, largest}
-use Rattle.calls.specs.Standing.{Phase, rest, running, over, Stands}
-use Rattle.calls.proofs.Model.{Step, answer_of, at, begins, goes_on, ends_so, is_past, posts, reached, reads, word_event}
-use Rattle.calls.proofs.Running.{done}
+use Rattle.calls.specs.Standing.{Phase, away, rest, running, over, Stands}
+use Rattle.calls.proofs.Model.{Step, answer_of, at, begins, goes_on, ends_so, is_past, opens_to, posts, reached, reads, word_event}
+use Rattle.calls.proofs.Opening.{one_opening, opening, opens_so}
+use Rattle.calls.proofs.Running.{done, store_of}
 use Rattle.calls.proofs.Due.{called, right}
-use Rattle.calls.proofs.Kept.{globals_held, kept, stands_first}
-use Rattle.calls.proofs.Sessions.{opened_lawful}
+use Rattle.calls.proofs.Kept.{kept, stands_first}
 use Rattle.session.specs.declared.runs.Closing.{Closing}
 use Rattle.session.specs.declared.runs.RunState.{RunState}
 use Rattle.session.specs.Sessions as Place
-use Rattle.session.specs.Sessions.{Held, Setting, after_post, cell_in, lawful_word, or_no_global, post_into, reading_of}
+use Rattle.session.specs.Sessions.{Held, Setting, after_opening, after_post, cell_in, lawful_word, or_no_global, post_into, reading_of}
 use Rattle.session.specs.Runs.{AfterBegin, Granted, WentOn, after_close, begin_answer, close_answer, closing, grant_refusal}
-use Rattle.session.specs.Promise.{Holds, Keeps, OpensFor, global_store, setting, to_begin, to_close, to_grant, to_post, to_reading}
+use Rattle.session.specs.Promise.{Holds, Keeps, StandsAfter, setting, to_begin, to_close, to_grant, to_open, to_post, to_reading}
 
-module _ (K : Arithmetic) where
+few_lines : (low high : ℤ) (rs : List Record) → Accepted low high rs → length (lines_of rs) ≤ 2048
+few_lines low high rs a = let e = length-map rs (λ r. r.line) in let few = a.few in omega (arith, e, few)
+
+module _ (K : Arithmetic) (rs : List Record) where
   -- the call q does what the model's does, in every phase
   abbrev pub Models : Call → Held → List ℕ → Reply → Held → List ℕ → Type 0
-  Models q held words r held' words' = (rs : List Record) (a : Accepted K.least K.most rs) (size n : ℕ) (p : Phase) → Holds rs size n held p
+  Models q held words r held' words' = (a : Accepted K.least K.most rs) (size n : ℕ) (p : Phase) → length words ≡ size → Holds rs size n held p
       → let x : Step = answer_of K (lines_of rs) a.script.text size (at p n words) q in
       (reply_of x.1 ≡ r) × Holds rs size x.0.runs held' x.0.phase × (words' ≡ x.0.words)
 
-  pub keeps : Laws K → (q : Call) (held held' : Held) (words words' : List ℕ) (r : Reply) → Models q held words r held' words' → Keeps K q held words r held' words'
-  keeps L q held held' words words' r m rs a size first h f =
+  pub keeps : Laws K → (q : Call) (held held' : Held) (words words' : List ℕ) (r : Reply) → Models q held words r held' words' → Keeps K rs q held words r held' words'
+  keeps L q held held' words words' r m a size first h f =
       let ls = lines_of rs in
-      let few : length ls ≤ 2048 = let e = length-map rs (λ r. r.line) in let few = a.few in omega (arith, e, few) in
       let l = ledger ls first h in
       let x : Step = answer_of K ls a.script.text size (at f.phase f.runs words) q in
-      let k = kept K L ls a.script few size f.room l f.phase f.runs words f.stands q in
-      let w = m rs a size f.runs f.phase f.holds in
+      let k = kept K L ls a.script (few_lines K.least K.most rs a) size l f.phase f.runs words f.stands q in
+      let w = m a size f.runs f.phase f.stands.long f.holds in
       let stands = subst (Stands K ls a.script.text size (ledger ls first (x.1 ∷ h)) x.0.phase x.0.runs) (sym w.2) k.stands in (
         x.1,
         ap call_of k.is ∙ called K ls a.script.text size l q,
         w.0,
         record {
+          talk = (f.talk, subst (Due K ls a.script.text size l) (sym k.is) (right K ls a.script.text size l q));
+          store = sym stands.words;
           phase = x.0.phase;
           runs = x.0.runs;
           holds = w.1;
-          room = f.room;
-          talk = (f.talk, subst (Due K ls a.script.text size l) (sym k.is) (right K ls a.script.text size l q));
-          globals = globals_held K L ls a.script few size f.room (ledger ls first (x.1 ∷ h)) words' x.0.phase x.0.runs stands;
           stands = stands;
         },
       )
 
--- the same of another call and another reply that are no others
-pub keeps_as : (K : Arithmetic) (q p : Call) (r s : Reply) (held held' : Held) (words words' : List ℕ) → q ≡ p → r ≡ s
-    → Keeps K q held words r held' words' → Keeps K p held words s held' words'
-keeps_as K q p r s held held' words words' e f k =
-    subst (λ x. Keeps K x held words s held' words') e (subst (λ x. Keeps K q held words x held' words') f k)
+  -- the same of another call and another reply that are no others
+  pub keeps_as : (q p : Call) (r s : Reply) (held held' : Held) (words words' : List ℕ) → q ≡ p → r ≡ s
+      → Keeps K rs q held words r held' words' → Keeps K rs p held words s held' words'
+  keeps_as q p r s held held' words words' e f k =
+      subst (λ x. Keeps K rs x held words s held' words') e (subst (λ x. Keeps K rs q held words x held' words') f k)
+
+  -- ## Before any call, and an opening
+
+  pub stands_unopened : Laws K → (a : Accepted K.least K.most rs) (words : List ℕ) → StandsAfter K rs a (length words) words [] Place.none words
+  stands_unopened L a words = record {
+    talk = tt;
+    store = refl;
+    phase = away;
+    runs = 0;
+    holds = refl;
+    stands = stands_first K L (lines_of rs) a.script (few_lines K.least K.most rs a) (length words) words refl;
+  }
+
+  pub open_models : (held held' : Held) (words : List ℕ) (r : Result (Unit {0}) (Refusal SessionCause)) → Opens K (lines_of rs) words r
+      → held' ≡ after_opening rs words r → Models Open held words (to_open r) held' words
+  open_models held held' words r o e a size n p h x =
+      let same : r ≡ opening K (lines_of rs) words = one_opening K (lines_of rs) words (opening K (lines_of rs) words) r (opens_so K (lines_of rs) words) o in
+      subst (λ y. (reply_of (opens_to y words).1 ≡ to_open r) × Holds rs size (opens_to y words).0.runs held' (opens_to y words).0.phase × (words ≡ (opens_to y words).0.words))
+      same (go r e)
+    where
+      go : (y : Result (Unit {0}) (Refusal SessionCause)) → held' ≡ after_opening rs words y
+          → (reply_of (opens_to y words).1 ≡ to_open y) × Holds rs size (opens_to y words).0.runs held' (opens_to y words).0.phase × (words ≡ (opens_to y words).0.words)
+      go (Ok u) f = (refl, f ∙ ap (λ k. Place.at_rest (setting rs k 0)) h, refl)
+      go (Err q) f = (refl, f, refl)
 
 -- ## Post and reading
 
@@ -81,14 +106,15 @@ lawful_reply : (K : Arithmetic) (o : Option ℕ) (g : GlobalCell) → reply_of (
 lawful_reply K None g = refl
 lawful_reply K (Some w) g = go (K.lawful w)
   where
-    go : (b : Bool) → reply_of (cond b (read g w) (refused (Reading g) StoreFails)) ≡ to_reading (cond b (Ok w) (Err (refusal_of StoreFails)))
+    go : (b : Bool) → reply_of (cond b (read g w) (refused (Reading g) StoreFails)) ≡ to_reading (cond b (Ok w) (Err (without_line StoreFails)))
     go true = refl
     go false = refl
 
-module _ (K : Arithmetic) (words : List ℕ) (g : GlobalCell) where
+module _ (K : Arithmetic) (rs : List Record) (words : List ℕ) (g : GlobalCell) where
   -- a reading, by the cell that it finds
-  pub reading_models : (held : Held) (r : Result ℕ (Refusal SessionCause)) → r ≡ reading_of K words (cell_in held g) → Models K (Reading g) held words (to_reading r) held words
-  reading_models held r e rs a size n rest h =
+  pub reading_models : (held : Held) (r : Result ℕ (Refusal SessionCause)) → r ≡ reading_of K words (cell_in held g) → Models K rs (Reading g) held words (to_reading r) held words
+  reading_models held r e a size n away long h = (ap to_reading (sym (e ∙ ap (λ x. reading_of K words (cell_in x g)) h)), h, refl)
+  reading_models held r e a size n rest long h =
       let t = go (cell_of (lines_of rs) g) in
       (t.0 ∙ ap to_reading (sym (e ∙ ap (λ x. reading_of K words (cell_in x g)) h)), t.1, t.2)
     where
@@ -96,13 +122,16 @@ module _ (K : Arithmetic) (words : List ℕ) (g : GlobalCell) where
           (reply_of x.1 ≡ to_reading (reading_of K words (or_no_global o))) × Holds rs size x.0.runs held x.0.phase × (words ≡ x.0.words)
       go None = (refl, h, refl)
       go (Some c) = (lawful_reply K (slice_get words c) g, h, refl)
-  reading_models held r e rs a size n (running ps k) h = (ap to_reading (sym (e ∙ ap (λ x. reading_of K words (cell_in x g)) h.1)), h, refl)
-  reading_models held r e rs a size n (over d k) h = (ap to_reading (sym (e ∙ ap (λ x. reading_of K words (cell_in x g)) h.1)), h, refl)
+  reading_models held r e a size n (running ps k) long h = (ap to_reading (sym (e ∙ ap (λ x. reading_of K words (cell_in x g)) h.1)), h, refl)
+  reading_models held r e a size n (over d k) long h = (ap to_reading (sym (e ∙ ap (λ x. reading_of K words (cell_in x g)) h.1)), h, refl)
 
   -- a post, by the cell that it finds, whether its word is lawful, and whether the store has the cell
   pub post_models : (w : ℕ) (held : Held) (words' : List ℕ) (r : Result (Unit {0}) (Refusal SessionCause)) → r ≡ post_into K words w (cell_in held g)
-      → words' ≡ after_post words (cell_in held g) w r → Models K (Post g w) held words (to_post r) held words'
-  post_models w held words' r e f rs a size n rest h =
+      → words' ≡ after_post words (cell_in held g) w r → Models K rs (Post g w) held words (to_post r) held words'
+  post_models w held words' r e f a size n away long h =
+      let none_there : cell_in held g ≡ Err (without_line NotAtRest) = ap (λ x. cell_in x g) h in
+      (ap to_post (sym (e ∙ ap (post_into K words w) none_there)), h, f ∙ ap (λ x. after_post words x w r) none_there)
+  post_models w held words' r e f a size n rest long h =
       let is : cell_in held g ≡ or_no_global (cell_of (lines_of rs) g) = ap (λ x. cell_in x g) h in
       let said : r ≡ post_into K words w (or_no_global (cell_of (lines_of rs) g)) = e ∙ ap (post_into K words w) is in
       let t = go (cell_of (lines_of rs) g) (K.lawful w) refl in
@@ -113,8 +142,8 @@ module _ (K : Arithmetic) (words : List ℕ) (g : GlobalCell) where
           × (after_post words (or_no_global o) w (post_into K words w (or_no_global o)) ≡ x.0.words)
       go None b q = (refl, h, refl)
       go (Some c) false q =
-          let said : post_into K words w (Ok c) ≡ Err (refusal_of UnlawfulWord) =
-          ap (λ b. cond b (cond (nat_lt c (length words)) (Ok tt) (Err (refusal_of StoreFails))) (Err (refusal_of UnlawfulWord))) q in
+          let said : post_into K words w (Ok c) ≡ Err (without_line UnlawfulWord) =
+          ap (λ b. cond b (cond (nat_lt c (length words)) (Ok tt) (Err (without_line StoreFails))) (Err (without_line UnlawfulWord))) q in
           (ap to_post (sym said), h, ap (after_post words (Ok c) w) said)
       go (Some c) true q = there (nat_lt c (length words)) refl
         where
@@ -122,17 +151,17 @@ module _ (K : Arithmetic) (words : List ℕ) (g : GlobalCell) where
               (reply_of x.1 ≡ to_post (post_into K words w (Ok c))) × Holds rs size x.0.runs held x.0.phase × (after_post words (Ok c) w (post_into K words w (Ok c)) ≡ x.0.words)
           there true u =
               let said : post_into K words w (Ok c) ≡ Ok tt =
-              (λ j. cond (q j) (cond (u j) (Ok tt) (Err (refusal_of StoreFails))) (Err (refusal_of UnlawfulWord))) in
+              (λ j. cond (q j) (cond (u j) (Ok tt) (Err (without_line StoreFails))) (Err (without_line UnlawfulWord))) in
               (ap to_post (sym said), h, ap (after_post words (Ok c) w) said)
           there false u =
-              let said : post_into K words w (Ok c) ≡ Err (refusal_of StoreFails) =
-              (λ j. cond (q j) (cond (u j) (Ok tt) (Err (refusal_of StoreFails))) (Err (refusal_of UnlawfulWord))) in
+              let said : post_into K words w (Ok c) ≡ Err (without_line StoreFails) =
+              (λ j. cond (q j) (cond (u j) (Ok tt) (Err (without_line StoreFails))) (Err (without_line UnlawfulWord))) in
               (ap to_post (sym said), h, ap (after_post words (Ok c) w) said)
-  post_models w held words' r e f rs a size n (running ps k) h =
-      let busy : cell_in held g ≡ Err (refusal_of NotAtRest) = ap (λ x. cell_in x g) h.1 in
+  post_models w held words' r e f a size n (running ps k) long h =
+      let busy : cell_in held g ≡ Err (without_line NotAtRest) = ap (λ x. cell_in x g) h.1 in
       (ap to_post (sym (e ∙ ap (post_into K words w) busy)), h, f ∙ ap (λ x. after_post words x w r) busy)
-  post_models w held words' r e f rs a size n (over d k) h =
-      let busy : cell_in held g ≡ Err (refusal_of NotAtRest) = ap (λ x. cell_in x g) h.1 in
+  post_models w held words' r e f a size n (over d k) long h =
+      let busy : cell_in held g ≡ Err (without_line NotAtRest) = ap (λ x. cell_in x g) h.1 in
       (ap to_post (sym (e ∙ ap (post_into K words w) busy)), h, f ∙ ap (λ x. after_post words x w r) busy)
 
 -- ## Begin
@@ -143,12 +172,13 @@ no_more n e = le-ltb n largest (leb-true largest n e)
 one_more : (n : ℕ) → leb largest n ≡ false → nat_lt n largest ≡ true
 one_more n e = lt-ltb n largest (leb-false largest n e)
 
-module _ (K : Arithmetic) (words : List ℕ) where
+module _ (K : Arithmetic) (rs : List Record) (words : List ℕ) where
   pub begin_models : (held held' : Held) (r : Result ℕ (Refusal SessionCause)) → r ≡ begin_answer held → AfterBegin held r held'
-      → Models K Begin held words (to_begin r) held' words
-  begin_models held held' r e f rs a size n rest h = go (leb largest n) refl
+      → Models K rs Begin held words (to_begin r) held' words
+  begin_models held held' r e f a size n away long h = (ap to_begin (sym (e ∙ ap begin_answer h)), subst (λ x. AfterBegin x r held') h f, refl)
+  begin_models held held' r e f a size n rest long h = go (leb largest n) refl
     where
-      here : r ≡ cond (nat_lt n largest) (Ok (n + 1)) (Err (refusal_of NoRunLeft))
+      here : r ≡ cond (nat_lt n largest) (Ok (n + 1)) (Err (without_line NoRunLeft))
       here = e ∙ ap begin_answer h
 
       moved : (x : Result ℕ (Refusal SessionCause)) → r ≡ x → AfterBegin (Place.at_rest (setting rs size n)) x held'
@@ -157,39 +187,39 @@ module _ (K : Arithmetic) (words : List ℕ) where
       go : (b : Bool) → leb largest n ≡ b → let x : Step = begins K (lines_of rs) a.script.text size rest b n words in
           (reply_of x.1 ≡ to_begin r) × Holds rs size x.0.runs held' x.0.phase × (words ≡ x.0.words)
       go true q =
-          let said : r ≡ Err (refusal_of NoRunLeft) = here ∙ ap (λ b. cond b (Ok (n + 1)) (Err (refusal_of NoRunLeft))) (no_more n q) in
-          let left : AfterBegin (Place.at_rest (setting rs size n)) (Err (refusal_of NoRunLeft)) held' = moved (Err (refusal_of NoRunLeft)) said in
+          let said : r ≡ Err (without_line NoRunLeft) = here ∙ ap (λ b. cond b (Ok (n + 1)) (Err (without_line NoRunLeft))) (no_more n q) in
+          let left : AfterBegin (Place.at_rest (setting rs size n)) (Err (without_line NoRunLeft)) held' = moved (Err (without_line NoRunLeft)) said in
           (ap to_begin (sym said), left, refl)
       go false q =
-          let said : r ≡ Ok (n + 1) = here ∙ ap (λ b. cond b (Ok (n + 1)) (Err (refusal_of NoRunLeft))) (one_more n q) in
+          let said : r ≡ Ok (n + 1) = here ∙ ap (λ b. cond b (Ok (n + 1)) (Err (without_line NoRunLeft))) (one_more n q) in
           let begun : AfterBegin (Place.at_rest (setting rs size n)) (Ok (n + 1)) held' = moved (Ok (n + 1)) said in
           (ap to_begin (sym said), (begun.0, begun.1, begun.2 K a), refl)
-  begin_models held held' r e f rs a size n (running ps k) h =
+  begin_models held held' r e f a size n (running ps k) long h =
       (ap to_begin (sym (e ∙ ap begin_answer h.1)), (h.0, subst (λ x. AfterBegin x r held') h.1 f, h.2), refl)
-  begin_models held held' r e f rs a size n (over d k) h =
+  begin_models held held' r e f a size n (over d k) long h =
       (ap to_begin (sym (e ∙ ap begin_answer h.1)), (h.0, subst (λ x. AfterBegin x r held') h.1 f, h.2), refl)
 
 -- ## Grant
 
-module _ (K : Arithmetic) (held held' : Held) (words words' : List ℕ) (i m : ℕ) (r : Result RunState (Refusal SessionCause)) where
+module _ (K : Arithmetic) (rs : List Record) (held held' : Held) (words words' : List ℕ) (i m : ℕ) (r : Result RunState (Refusal SessionCause)) where
   abbrev pub Refuses : Type 0
-  Refuses = (c : SessionCause) → grant_refusal held i m ≡ Some c → (r ≡ Err (refusal_of c)) × (held' ≡ held) × (words' ≡ words)
+  Refuses = (c : SessionCause) → grant_refusal held i m ≡ Some c → (r ≡ Err (without_line c)) × (held' ≡ held) × (words' ≡ words)
 
   abbrev pub Goes : Type 0
   Goes = grant_refusal held i m ≡ None → Granted K held m words r held' words'
 
-  module _ (fails : Refuses) (goes : Goes) (rs : List Record) (a : Accepted K.least K.most rs) (size n : ℕ) where
+  module _ (fails : Refuses) (goes : Goes) (a : Accepted K.least K.most rs) (size n : ℕ) where
     abbrev o : Setting
     o = setting rs size n
 
     -- a refused grant leaves all as it was
     refused_so : (p : Phase) (c : SessionCause) → Holds rs size n held p → grant_refusal held i m ≡ Some c
-        → (Err (refusal_of c) ≡ to_grant r) × Holds rs size n held' p × (words' ≡ words)
+        → (Err (without_line c) ≡ to_grant r) × Holds rs size n held' p × (words' ≡ words)
     refused_so p c h e = let w = fails c e in (sym (ap to_grant w.0), subst (λ x. Holds rs size n x p) (sym w.1) h, w.2)
 
     -- the machine has come to x
     came : (k : ℕ) (x : Reached Item (List ℕ)) → WentOn o k m r held' words' x
-        → (reply_of (granted i m (done x)) ≡ to_grant r) × Holds rs size (reached n k m x).runs held' (reached n k m x).phase × (words' ≡ (reached n k m x).words)
+        → (reply_of (granted i m (done x) (store_of x)) ≡ to_grant r) × Holds rs size (reached n k m x).runs held' (reached n k m x).phase × (words' ≡ (reached n k m x).words)
     came k (going ps τ) w = (ap to_grant (sym w.0), (w.2, w.3, w.4), w.1)
     came k (ended d j τ) w = (ap to_grant (sym w.0), (w.2, w.4, w.3), w.1)
 
@@ -217,20 +247,22 @@ module _ (K : Arithmetic) (held held' : Held) (words words' : List ℕ) (i m : �
     past_it d k h false e = refused_so (over d k) NoSuchRun h (ap (λ u. grant_refusal u i m) h.1 ∙ ap (λ b. cond b (Some RunIsOver) (Some NoSuchRun)) e)
     past_it d k h true e = refused_so (over d k) RunIsOver h (ap (λ u. grant_refusal u i m) h.1 ∙ ap (λ b. cond b (Some RunIsOver) (Some NoSuchRun)) e)
 
-  pub grant_models : Refuses → Goes → Models K (Grant i m) held words (to_grant r) held' words'
-  grant_models fails goes rs a size n rest h = refused_so fails goes rs a size n rest NoSuchRun h (ap (λ u. grant_refusal u i m) h)
-  grant_models fails goes rs a size n (running ps k) h = in_a_run fails goes rs a size n ps k h (eqb n i) (eqb m 0) (ltb largest (k + m)) refl refl refl
-  grant_models fails goes rs a size n (over d k) h = past_it fails goes rs a size n d k h (eqb n i) refl
+  pub grant_models : Refuses → Goes → Models K rs (Grant i m) held words (to_grant r) held' words'
+  grant_models fails goes a size n away long h = refused_so fails goes a size n away NoSuchRun h (ap (λ u. grant_refusal u i m) h)
+  grant_models fails goes a size n rest long h = refused_so fails goes a size n rest NoSuchRun h (ap (λ u. grant_refusal u i m) h)
+  grant_models fails goes a size n (running ps k) long h = in_a_run fails goes a size n ps k h (eqb n i) (eqb m 0) (ltb largest (k + m)) refl refl refl
+  grant_models fails goes a size n (over d k) long h = past_it fails goes a size n d k h (eqb n i) refl
 
 -- ## Close
 
-module _ (K : Arithmetic) (words : List ℕ) (i : ℕ) where
+module _ (K : Arithmetic) (rs : List Record) (words : List ℕ) (i : ℕ) where
   pub close_models : (held held' : Held) (r : Result Closing (Refusal SessionCause)) → r ≡ close_answer held i → held' ≡ after_close held i
-      → Models K (Close i) held words (to_close r) held' words
-  close_models held held' r e f rs a size n rest h = (ap to_close (sym (e ∙ ap (λ x. close_answer x i) h)), f ∙ ap (λ x. after_close x i) h, refl)
-  close_models held held' r e f rs a size n (running ps k) h = go (eqb n i) refl
+      → Models K rs (Close i) held words (to_close r) held' words
+  close_models held held' r e f a size n away long h = (ap to_close (sym (e ∙ ap (λ x. close_answer x i) h)), f ∙ ap (λ x. after_close x i) h, refl)
+  close_models held held' r e f a size n rest long h = (ap to_close (sym (e ∙ ap (λ x. close_answer x i) h)), f ∙ ap (λ x. after_close x i) h, refl)
+  close_models held held' r e f a size n (running ps k) long h = go (eqb n i) refl
     where
-      answered : r ≡ cond (eqb n i) (Ok (closing Stopped k)) (Err (refusal_of NoSuchRun))
+      answered : r ≡ cond (eqb n i) (Ok (closing Stopped k)) (Err (without_line NoSuchRun))
       answered = e ∙ ap (λ x. close_answer x i) h.1
 
       left : held' ≡ cond (eqb n i) (Place.at_rest (setting rs size n)) (Place.running (setting rs size n) k h.0)
@@ -239,18 +271,18 @@ module _ (K : Arithmetic) (words : List ℕ) (i : ℕ) where
       go : (b : Bool) → eqb n i ≡ b → let x : Step = ends_so K (lines_of rs) a.script.text size b (running ps k) stopped k n words i in
           (reply_of x.1 ≡ to_close r) × Holds rs size x.0.runs held' x.0.phase × (words ≡ x.0.words)
       go false q = (
-        ap to_close (sym (answered ∙ ap (λ b. cond b (Ok (closing Stopped k)) (Err (refusal_of NoSuchRun))) q)),
+        ap to_close (sym (answered ∙ ap (λ b. cond b (Ok (closing Stopped k)) (Err (without_line NoSuchRun))) q)),
         (h.0, left ∙ ap (λ b. cond b (Place.at_rest (setting rs size n)) (Place.running (setting rs size n) k h.0)) q, h.2),
         refl,
       )
       go true q = (
-        ap to_close (sym (answered ∙ ap (λ b. cond b (Ok (closing Stopped k)) (Err (refusal_of NoSuchRun))) q)),
+        ap to_close (sym (answered ∙ ap (λ b. cond b (Ok (closing Stopped k)) (Err (without_line NoSuchRun))) q)),
         left ∙ ap (λ b. cond b (Place.at_rest (setting rs size n)) (Place.running (setting rs size n) k h.0)) q,
         refl,
       )
-  close_models held held' r e f rs a size n (over d k) h = go (eqb n i) refl
+  close_models held held' r e f a size n (over d k) long h = go (eqb n i) refl
     where
-      answered : r ≡ cond (eqb n i) (Ok (closing h.0 k)) (Err (refusal_of NoSuchRun))
+      answered : r ≡ cond (eqb n i) (Ok (closing h.0 k)) (Err (without_line NoSuchRun))
       answered = e ∙ ap (λ x. close_answer x i) h.1
 
       left : held' ≡ cond (eqb n i) (Place.at_rest (setting rs size n)) (Place.over (setting rs size n) h.0 k)
@@ -259,30 +291,13 @@ module _ (K : Arithmetic) (words : List ℕ) (i : ℕ) where
       go : (b : Bool) → eqb n i ≡ b → let x : Step = ends_so K (lines_of rs) a.script.text size b (over d k) d k n words i in
           (reply_of x.1 ≡ to_close r) × Holds rs size x.0.runs held' x.0.phase × (words ≡ x.0.words)
       go false q = (
-        ap to_close (sym (answered ∙ ap (λ b. cond b (Ok (closing h.0 k)) (Err (refusal_of NoSuchRun))) q)),
+        ap to_close (sym (answered ∙ ap (λ b. cond b (Ok (closing h.0 k)) (Err (without_line NoSuchRun))) q)),
         (h.0, left ∙ ap (λ b. cond b (Place.at_rest (setting rs size n)) (Place.over (setting rs size n) h.0 k)) q, h.2),
         refl,
       )
       go true q = (
         ap (λ c. Ok (Closed c k)) (ap ending_of (sym h.2) ∙ endings_told h.0)
-            ∙ ap to_close (sym (answered ∙ ap (λ b. cond b (Ok (closing h.0 k)) (Err (refusal_of NoSuchRun))) q)),
+            ∙ ap to_close (sym (answered ∙ ap (λ b. cond b (Ok (closing h.0 k)) (Err (without_line NoSuchRun))) q)),
         left ∙ ap (λ b. cond b (Place.at_rest (setting rs size n)) (Place.over (setting rs size n) h.0 k)) q,
         refl,
       )
-
--- ## The opening
-
-pub opens : (K : Arithmetic) → Laws K → (rs : List Record) (words : List ℕ) → (globals_of (lines_of rs)).taken ≤ length words
-    → ((n : ℕ) → ¬ (Unlawful K (lines_of rs) words n)) → OpensFor K rs words (Ok tt) (Place.at_rest (setting rs (length words) 0))
-opens K L rs words room none a =
-    let ls = lines_of rs in
-    let few : length ls ≤ 2048 = let e = length-map rs (λ r. r.line) in let few = a.few in omega (arith, e, few) in
-    let stands = stands_first K L ls a.script few (length words) room words refl (opened_lawful K K.least K.most ls a.script words room none) in record {
-      phase = rest;
-      runs = 0;
-      holds = refl;
-      room = room;
-      talk = tt;
-      globals = globals_held K L ls a.script few (length words) room (ledger ls (global_store rs words) []) words rest 0 stands;
-      stands = stands;
-    }

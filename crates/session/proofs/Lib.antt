@@ -1,5 +1,4 @@
 pub mod Passing
-pub mod Opened
 pub mod Going
 pub mod Keeping
 pub mod Talking

@@ -9,7 +9,7 @@ use Rattle.calls.specs.declared.asked.Call.TheVariants.{Post}
 use Rattle.acceptance.specs.declared.globals.GlobalSort.TheVariants.{Simple}
 use Rattle.calls.specs.History.{History, Reply, call_of, reply_of}
 use Rattle.session.specs.Sessions.{Held}
-use Rattle.session.specs.Promise.{Keeps, StandsAfter, Talked, global_store}
+use Rattle.session.specs.Promise.{Keeps, StandsAfter, Talked}
 
 -- a call to look up by default
 abbrev pub blank : Call
@@ -25,16 +25,16 @@ module _ (K : Arithmetic) (rs : List Record) (a : Accepted K.least K.most rs) (�
     pub history : History
     pub asked : map call_of history ≡ reverse qs
     pub told : map reply_of history ≡ reverse replies
-    pub stands : StandsAfter K rs a (length σ) (global_store rs σ) history held words
+    pub stands : StandsAfter K rs a (length σ) σ history held words
 
-  pub spoken_first : (held : Held) → StandsAfter K rs a (length σ) (global_store rs σ) [] held σ → Spoken [] [] held σ
+  pub spoken_first : (held : Held) → StandsAfter K rs a (length σ) σ [] held σ → Spoken [] [] held σ
   spoken_first held s = record { history = []; asked = refl; told = refl; stands = s }
 
   -- with one call more, by the promise of that call
   pub spoken_more : (qs : List Call) (replies : List Reply) (held held' : Held) (words words' : List ℕ) (q : Call) (r : Reply)
-      → Spoken qs replies held words → Keeps K q held words r held' words' → Spoken (qs ++ q ∷ []) (replies ++ r ∷ []) held' words'
+      → Spoken qs replies held words → Keeps K rs q held words r held' words' → Spoken (qs ++ q ∷ []) (replies ++ r ∷ []) held' words'
   spoken_more qs replies held held' words words' q r s k =
-      let w = k rs a (length σ) (global_store rs σ) s.history s.stands in record {
+      let w = k a (length σ) σ s.history s.stands in record {
         history = w.0 ∷ s.history;
         asked = (λ j. w.1 j ∷ s.asked j) ∙ sym (reverse-append qs (q ∷ []));
         told = (λ j. w.2 j ∷ s.told j) ∙ sym (reverse-append replies (r ∷ []));
@@ -44,6 +44,5 @@ module _ (K : Arithmetic) (rs : List Record) (a : Accepted K.least K.most rs) (�
   pub talked : (qs : List Call) (replies : List Reply) (held : Held) (words : List ℕ) → Spoken qs replies held words → Talked K rs a σ qs replies words
   talked qs replies held words s = record {
     answered = record { history = s.history; talk = s.stands.talk; asked = s.asked; told = s.told };
-    globals = s.stands.globals;
-    long = s.stands.stands.long;
+    store = s.stands.store;
   }

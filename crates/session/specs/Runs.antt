@@ -3,6 +3,7 @@ use Rattle.std.specs.Prelude.{◌≡◌, ℕ, ◌+◌, ◌-◌, ◌||◌, cond, 
 use Rattle.kinds.specs.Arithmetic.{Arithmetic}
 use Rattle.lines.specs.declared.records.Record.{Record}
 use Rattle.text.specs.declared.refusals.Refusal.{Refusal}
+use Rattle.text.specs.Refusals.{without_line}
 use Rattle.acceptance.specs.Sheet.{lines_of}
 use Rattle.acceptance.specs.Scripts.{Accepted}
 use Rattle.rule.specs.Closing.{first_items, program_of}
@@ -16,7 +17,6 @@ use Rattle.engine.specs.Running.{StandsFor, globals_in, machine_after}
 use Rattle.calls.specs.declared.causes.SessionCause.{SessionCause}
 use Rattle.calls.specs.declared.causes.SessionCause.TheVariants.{NotAtRest, NoSuchRun, WrongGrant, RunIsOver, NoRunLeft}
 use Rattle.calls.specs.Answers.{largest}
-use Rattle.calls.specs.Causes.{refusal_of}
 use Rattle.session.specs.declared.runs.Closing.{Closing}
 use Rattle.session.specs.declared.runs.RunState.{RunState}
 use Rattle.session.specs.declared.runs.RunState.TheVariants.{Running, Over}
@@ -39,10 +39,10 @@ numbered (Ok t) = Ok t.run
 numbered (Err r) = Err r
 
 abbrev pub begin_answer : Held → Result ℕ (Refusal SessionCause)
-begin_answer none = Err (refusal_of NotAtRest)
-begin_answer (at_rest o) = cond (nat_lt o.runs largest) (Ok (o.runs + 1)) (Err (refusal_of NoRunLeft))
-begin_answer (running o k e) = Err (refusal_of NotAtRest)
-begin_answer (over o d k) = Err (refusal_of NotAtRest)
+begin_answer none = Err (without_line NotAtRest)
+begin_answer (at_rest o) = cond (nat_lt o.runs largest) (Ok (o.runs + 1)) (Err (without_line NoRunLeft))
+begin_answer (running o k e) = Err (without_line NotAtRest)
+begin_answer (over o d k) = Err (without_line NotAtRest)
 
 -- the engine stands for the first state of the machine in a run of an accepted script
 abbrev pub Starts : List Record → Engine → Type 0
@@ -70,7 +70,7 @@ grant_refusal (over o d k) run n = cond (o.runs == run) (Some RunIsOver) (Some N
 
 -- how many statements a run has begun that is granted more, or why it is not
 abbrev pub or_begun : Held → Option SessionCause → Result ℕ (Refusal SessionCause)
-or_begun h (Some c) = Err (refusal_of c)
+or_begun h (Some c) = Err (without_line c)
 or_begun none None = Ok 0
 or_begun (at_rest o) None = Ok 0
 or_begun (running o k e) None = Ok k
@@ -95,10 +95,10 @@ abbrev pub closing : Ending → ℕ → Closing
 closing d k = record { ending = d; count = k }
 
 abbrev pub close_answer : Held → ℕ → Result Closing (Refusal SessionCause)
-close_answer none run = Err (refusal_of NoSuchRun)
-close_answer (at_rest o) run = Err (refusal_of NoSuchRun)
-close_answer (running o k e) run = cond (o.runs == run) (Ok (closing Stopped k)) (Err (refusal_of NoSuchRun))
-close_answer (over o d k) run = cond (o.runs == run) (Ok (closing d k)) (Err (refusal_of NoSuchRun))
+close_answer none run = Err (without_line NoSuchRun)
+close_answer (at_rest o) run = Err (without_line NoSuchRun)
+close_answer (running o k e) run = cond (o.runs == run) (Ok (closing Stopped k)) (Err (without_line NoSuchRun))
+close_answer (over o d k) run = cond (o.runs == run) (Ok (closing d k)) (Err (without_line NoSuchRun))
 
 abbrev pub after_close : Held → ℕ → Held
 after_close none run = none

@@ -1,20 +1,18 @@
--- What the calls of a session answer, and what they leave. The lines are those of the script that is opened; the words are those of the store that
--- is handed to the call.
-use Rattle.std.specs.Prelude.{◌≡◌, ℕ, ◌<◌, ◌≤◌, cond, List, length, Some, None, Ok, Err, Option, Result, nat_lt, slice_set}
+-- What opening, post and reading leave and answer, for any place and any store: the words are those of the store that is handed to the call. (What an
+-- opening answers is told by Opens, of the crate calls.)
+use Rattle.std.specs.Prelude.{ℕ, cond, List, length, Some, None, Ok, Err, Option, Result, nat_lt, slice_set}
 use Rattle.std.specs.List.{slice_get}
 use Rattle.kinds.specs.Arithmetic.{Arithmetic}
-use Rattle.lines.specs.declared.records.Line.{Line}
 use Rattle.lines.specs.declared.records.Record.{Record}
 use Rattle.text.specs.declared.refusals.Refusal.{Refusal}
-use Rattle.script.specs.Apart.{globals_of}
+use Rattle.text.specs.Refusals.{without_line}
 use Rattle.acceptance.specs.Sheet.{lines_of}
 use Rattle.calls.specs.declared.causes.SessionCause.{SessionCause}
-use Rattle.calls.specs.declared.causes.SessionCause.TheVariants.{StoreTooSmall, UnlawfulGlobal, NotAtRest, NoSuchGlobal, UnlawfulWord, NoSuchRun, WrongGrant, RunIsOver, NoRunLeft, StoreFails}
+use Rattle.calls.specs.declared.causes.SessionCause.TheVariants.{NotAtRest, NoSuchGlobal, UnlawfulWord, StoreFails}
 use Rattle.faults.specs.declared.ending.Ending.{Ending}
 use Rattle.engine.specs.declared.levels.Engine.{Engine}
 use Rattle.calls.specs.declared.asked.GlobalCell.{GlobalCell}
-use Rattle.calls.specs.Causes.{refusal_of}
-use Rattle.calls.specs.Globals.{FirstUnlawful, Unlawful, cell_of}
+use Rattle.calls.specs.Globals.{cell_of}
 
 -- What stays of a session from its opening on: the script's records, the size that the store had then, and how many runs were begun.
 pub record Setting : Type 0 where
@@ -32,25 +30,6 @@ pub data Held : Type 0 where
 
 -- ## Opening
 
--- the opening of lines over a store is refused for that cause, with that line
-abbrev pub RefusesOpening : Arithmetic → List Line → List ℕ → SessionCause → ℕ → Type 0
-RefusesOpening K ls words StoreTooSmall n = (length words < (globals_of ls).taken) × (n ≡ 0)
-RefusesOpening K ls words UnlawfulGlobal n = ((globals_of ls).taken ≤ length words) × FirstUnlawful K ls words n
-RefusesOpening K ls words NotAtRest n = ⊥
-RefusesOpening K ls words NoSuchGlobal n = ⊥
-RefusesOpening K ls words UnlawfulWord n = ⊥
-RefusesOpening K ls words NoSuchRun n = ⊥
-RefusesOpening K ls words WrongGrant n = ⊥
-RefusesOpening K ls words RunIsOver n = ⊥
-RefusesOpening K ls words NoRunLeft n = ⊥
-RefusesOpening K ls words StoreFails n = ⊥
-
--- The answer to an opening is right: the store holds all globals and no global an unlawful word; or it is refused, for the lowest line with an
--- unlawful word if the store is large enough.
-abbrev pub Opens : Arithmetic → List Line → List ℕ → Result (Unit {0}) (Refusal SessionCause) → Type 0
-Opens K ls words (Ok _) = ((globals_of ls).taken ≤ length words) × ((n : ℕ) → ¬ (Unlawful K ls words n))
-Opens K ls words (Err r) = RefusesOpening K ls words r.cause r.line
-
 -- what the place holds then, whatever it held before
 abbrev pub after_opening : List Record → List ℕ → Result (Unit {0}) (Refusal SessionCause) → Held
 after_opening rs words (Ok _) = at_rest (record { records = rs; size = length words; runs = 0 })
@@ -60,26 +39,26 @@ after_opening rs words (Err _) = none
 
 -- a cell that has to be there
 abbrev pub or_no_global : Option ℕ → Result ℕ (Refusal SessionCause)
-or_no_global None = Err (refusal_of NoSuchGlobal)
+or_no_global None = Err (without_line NoSuchGlobal)
 or_no_global (Some c) = Ok c
 
 -- the cell of a global in a session at rest, or why there is none
 abbrev pub cell_in : Held → GlobalCell → Result ℕ (Refusal SessionCause)
-cell_in none g = Err (refusal_of NotAtRest)
+cell_in none g = Err (without_line NotAtRest)
 cell_in (at_rest o) g = or_no_global (cell_of (lines_of o.records) g)
-cell_in (running o k e) g = Err (refusal_of NotAtRest)
-cell_in (over o d k) g = Err (refusal_of NotAtRest)
+cell_in (running o k e) g = Err (without_line NotAtRest)
+cell_in (over o d k) g = Err (without_line NotAtRest)
 
 -- the word of a cell: the store has to have the cell, and the word to be lawful
 abbrev pub lawful_word : Arithmetic → Option ℕ → Result ℕ (Refusal SessionCause)
-lawful_word K None = Err (refusal_of StoreFails)
-lawful_word K (Some w) = cond (K.lawful w) (Ok w) (Err (refusal_of StoreFails))
+lawful_word K None = Err (without_line StoreFails)
+lawful_word K (Some w) = cond (K.lawful w) (Ok w) (Err (without_line StoreFails))
 
 module _ (K : Arithmetic) (words : List ℕ) where
   -- a post of the word w into a cell
   abbrev pub post_into : ℕ → Result ℕ (Refusal SessionCause) → Result (Unit {0}) (Refusal SessionCause)
   post_into w (Err r) = Err r
-  post_into w (Ok c) = cond (K.lawful w) (cond (nat_lt c (length words)) (Ok tt) (Err (refusal_of StoreFails))) (Err (refusal_of UnlawfulWord))
+  post_into w (Ok c) = cond (K.lawful w) (cond (nat_lt c (length words)) (Ok tt) (Err (without_line StoreFails))) (Err (without_line UnlawfulWord))
 
   abbrev pub reading_of : Result ℕ (Refusal SessionCause) → Result ℕ (Refusal SessionCause)
   reading_of (Err r) = Err r

@@ -1,11 +1,9 @@
-// Lists of calls: a session is opened over a store, and asked one call after the other.
-ghost use Rattle.std.specs.Prelude.{◌≡◌, min, length, take, drop, IfOk, IfErr};
+// Lists of calls: one after the other is asked of a caller's place, over one store.
+ghost use Rattle.std.specs.Prelude.{◌≡◌, min, length, take, drop};
 ghost use Rattle.acceptance.specs.Scripts.{Accepted};
-ghost use Rattle.acceptance.specs.Sheet.{lines_of};
-ghost use Rattle.calls.specs.Laws.{Alike, OneReply};
+ghost use Rattle.calls.specs.Laws.{BegunAll, OneReply};
 ghost use Rattle.faults.specs.Known.{ClosingsKnown};
-ghost use Rattle.session.specs.Promise.{Keeps, Talked, calls_made, opening_of, to_begin, to_close, to_grant, to_post, to_reading};
-ghost use Rattle.session.specs.Sessions.{Opens};
+ghost use Rattle.session.specs.Promise.{Keeps, Talked, to_begin, to_close, to_grant, to_open, to_post, to_reading};
 
 use crate::runs::{Closing, RunState};
 use crate::sessions::Session;
@@ -13,11 +11,18 @@ use acceptance::scripts::Script;
 use calls::asked::{Answer, Call};
 use calls::causes::SessionCause;
 use kinds::NumberKind;
-use text::refusals::Refusal;
 use stores::Store;
+use text::refusals::Refusal;
 
-// What a call gets: an answer, or a refusal.
+/// What a call gets: an answer, or a refusal.
 pub type Reply = Result<Answer, Refusal<SessionCause>>;
+
+fn to_open(answer: Result<(), Refusal<SessionCause>>) -> Reply
+    ensures { result ≡ to_open answer }
+{
+    answer?;
+    Ok(Answer::Opened)
+}
 
 fn to_post(answer: Result<(), Refusal<SessionCause>>) -> Reply
     ensures { result ≡ to_post answer }
@@ -56,11 +61,12 @@ fn to_close(answer: Result<Closing, Refusal<SessionCause>>) -> Reply
 
 impl<'s, 'r, K: NumberKind> Session<'s, 'r, K> {
     // Makes one call; a ticket is named by its run's number. Private, since a program outside has to hold its tickets.
-    fn make<S: Store>(&mut self, store: &mut S, call: Call) -> Reply
-        ensures promise { Keeps K.kind call self.old (S.Store.words store.old) result self.new (S.Store.words store.new) }
+    fn make<S: Store>(&mut self, script: &'s Script<'r, K>, store: &mut S, call: Call) -> Reply
+        ensures promise { Keeps K.kind script.now call self.old (S.Store.words store.old) result self.new (S.Store.words store.new) }
         ensures lent { S.Store.lent store.new ≡ S.Store.lent store.old }
     {
         match call {
+            Call::Open => to_open(self.open(script, store)),
             Call::Post { global, word } => to_post(self.post(store, global, word)),
             Call::Reading { global } => to_reading(self.reading(store, global)),
             Call::Begin => to_begin(self.begin_run()),
@@ -70,30 +76,29 @@ impl<'s, 'r, K: NumberKind> Session<'s, 'r, K> {
     }
 }
 
-// Opens a session of a script over a store and makes the calls in order, as many as there are places for replies; it tells how many that were.
-// Where the opening is refused it makes none: there is no session to ask. The clauses `one_reply`, `alike` and `endings` are laws of what is due: there is
-// one list of replies, two sessions reply alike exactly where they opened alike, and no ending is lost where it is told.
+/// Makes the calls in order in a place that holds no session at first, as many as there are places for replies, and tells how many that were. Each opening
+/// is of the script, and each call is handed the store.
+///
+/// The promise is told of the calls and the replies by history and the copy rule; and the store then holds exactly the words that they tell. The clauses
+/// below it are laws of what is due: there is one list of replies, no ending is lost where it is told, and a run that goes on has begun all that it was granted.
 pub fn play<K: NumberKind, S: Store>(
     script: &Script<K>,
     store: &mut S,
     calls: &[Call],
     replies: &mut [Reply],
-) -> Result<usize, Refusal<SessionCause>>
-    ensures opening { Opens K.kind (lines_of script.now) (S.Store.words store.old) (opening_of result) }
-    ensures count { IfOk result (λ n. n ≡ min (length calls.now) (length replies.old)) }
-    ensures promise { (a : Accepted K.kind.least K.kind.most script.now) → IfOk result (λ n. Talked K.kind script.now a (S.Store.words store.old) (take n calls.now) (take n replies.new) (S.Store.words store.new)) }
+) -> usize
+    ensures count { result ≡ min (length calls.now) (length replies.old) }
+    ensures promise { (a : Accepted K.kind.least K.kind.most script.now) → Talked K.kind script.now a (S.Store.words store.old) (take result calls.now) (take result replies.new) (S.Store.words store.new) }
     ensures one_reply { OneReply }
-    ensures alike { Alike }
+    ensures begun_all { BegunAll }
     ensures endings { ClosingsKnown }
-    ensures refused { IfErr result (λ _. S.Store.words store.new ≡ S.Store.words store.old) }
-    ensures rest { drop (calls_made result) replies.new ≡ drop (calls_made result) replies.old }
+    ensures rest { drop result replies.new ≡ drop result replies.old }
     ensures lent { S.Store.lent store.new ≡ S.Store.lent store.old }
 {
     let mut session = Session::unopened();
-    session.open(script, store)?;
     let count = calls.len().min(replies.len());
     for (i, call) in calls[..count].iter().enumerate() {
-        replies[i] = session.make(store, *call);
+        replies[i] = session.make(script, store, *call);
     }
-    Ok(count)
+    count
 }

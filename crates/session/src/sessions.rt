@@ -1,11 +1,14 @@
 // A script's session over a store: opened, and then at rest between runs. The store is handed to each call.
-ghost use Rattle.std.specs.Prelude.{◌≡◌, Result};
+ghost use Rattle.std.specs.Prelude.{◌≡◌, ℕ, List, [], Result, length};
 ghost use Rattle.text.specs.declared.refusals.Refusal.{Refusal};
+ghost use Rattle.lines.specs.declared.records.Record.{Record};
+ghost use Rattle.acceptance.specs.Scripts.{Accepted};
 ghost use Rattle.acceptance.specs.Sheet.{lines_of};
+ghost use Rattle.calls.specs.Openings.{Opens};
 ghost use Rattle.calls.specs.declared.causes.SessionCause.{SessionCause};
-ghost use Rattle.session.specs.Sessions.{Held, none, Opens, after_opening, after_post, cell_in, post_into, reading_of};
-ghost use Rattle.calls.specs.declared.asked.Call.TheVariants.{Post, Reading};
-ghost use Rattle.session.specs.Promise.{Keeps, OpensFor, to_post, to_reading};
+ghost use Rattle.session.specs.Sessions.{Held, none, after_opening, after_post, cell_in, post_into, reading_of};
+ghost use Rattle.calls.specs.declared.asked.Call.TheVariants.{Open, Post, Reading};
+ghost use Rattle.session.specs.Promise.{Keeps, StandsAfter, to_open, to_post, to_reading};
 ghost use Rattle.session.specs.States.{held};
 
 use crate::opening::first_unlawful;
@@ -39,7 +42,7 @@ pub(crate) enum State {
     Over { ending: Ending, count: u32 },
 }
 
-// A caller's place for a session.
+/// A caller's place for a session.
 #[derive(Drop)]
 pub struct Session<'s, 'r, K: NumberKind> {
     // none in a place that is unopened, or whose opening was refused
@@ -56,9 +59,10 @@ impl<'s, 'r, K: NumberKind> Model for Session<'s, 'r, K> {
 }
 
 impl<'s, 'r, K: NumberKind> Session<'s, 'r, K> {
-    // A place that holds no session yet.
+    /// A place that holds no session yet. With any store it stands as before any call.
     pub fn unopened() -> Session<'s, 'r, K>
-        ensures { result ≡ none }
+        ensures holds { result ≡ none }
+        ensures promise { (rs : List Record) (a : Accepted K.kind.least K.kind.most rs) (words : List ℕ) → StandsAfter K.kind rs a (length words) words [] result words }
     {
         Session {
             opened: None,
@@ -67,7 +71,12 @@ impl<'s, 'r, K: NumberKind> Session<'s, 'r, K> {
         }
     }
 
-    // Opens a script over a store. The place then holds the session, or none where it is refused, whatever it held.
+    /// Opens a script over a store. The place then holds the session, or none where the opening is refused, whatever it held: an open run ends so, and
+    /// the session's runs are counted from 1 again.
+    ///
+    /// # Errors
+    ///
+    /// 11 where the store has not as many cells as the globals take; 12, with its line, for the first global with a word that is unlawful for the number kind.
     pub fn open<S: Store>(
         &mut self,
         script: &'s Script<'r, K>,
@@ -76,12 +85,12 @@ impl<'s, 'r, K: NumberKind> Session<'s, 'r, K> {
         ensures answer { Opens K.kind (lines_of script.now) (S.Store.words store.now) result }
         ensures only { (s : Result (Unit {0}) (Refusal SessionCause)) → Opens K.kind (lines_of script.now) (S.Store.words store.now) s → s ≡ result }
         ensures session { self.new ≡ after_opening script.now (S.Store.words store.now) result }
-        ensures promise { OpensFor K.kind script.now (S.Store.words store.now) result self.new }
+        ensures promise { (held : Held) → Keeps K.kind script.now Open held (S.Store.words store.now) (to_open result) self.new (S.Store.words store.now) }
     {
         self.opened = None;
         self.state = State::AtRest;
         if store.size() < script.cells() as usize {
-            return Err(SessionCause::StoreTooSmall.refusal());
+            return Err(Refusal::without_line(SessionCause::StoreTooSmall));
         }
         if let Some(line) = first_unlawful::<K, S>(script.records(), store) {
             return Err(Refusal {
@@ -102,9 +111,9 @@ impl<'s, 'r, K: NumberKind> Session<'s, 'r, K> {
         ensures { result ≡ cell_in self.now global }
     {
         let (Some(opened), State::AtRest) = (&self.opened, self.state) else {
-            return Err(SessionCause::NotAtRest.refusal());
+            return Err(Refusal::without_line(SessionCause::NotAtRest));
         };
-        let no_such_global = SessionCause::NoSuchGlobal.refusal();
+        let no_such_global = Refusal::without_line(SessionCause::NoSuchGlobal);
         let declared = opened
             .script
             .global(global.sort, global.name)
@@ -118,7 +127,12 @@ impl<'s, 'r, K: NumberKind> Session<'s, 'r, K> {
         }
     }
 
-    // Puts a word into a global.
+    /// Puts a word into a global, between runs.
+    ///
+    /// # Errors
+    ///
+    /// 13 where no session is at rest here; 14 where the script has no such global, or the global no such index; 15 where the word is unlawful for the number
+    /// kind; 26 where the store refuses the put, as only another store than the opened one can. The store is then as it was.
     pub fn post<S: Store>(
         &self,
         store: &mut S,
@@ -127,20 +141,24 @@ impl<'s, 'r, K: NumberKind> Session<'s, 'r, K> {
     ) -> Result<(), Refusal<SessionCause>>
         ensures answer { result ≡ post_into K.kind (S.Store.words store.old) word (cell_in self.now global) }
         ensures words { S.Store.words store.new ≡ after_post (S.Store.words store.old) (cell_in self.now global) word result }
-        ensures promise { Keeps K.kind (Post global word) self.now (S.Store.words store.old) (to_post result) self.now (S.Store.words store.new) }
+        ensures promise { (rs : List Record) → Keeps K.kind rs (Post global word) self.now (S.Store.words store.old) (to_post result) self.now (S.Store.words store.new) }
         ensures lent { S.Store.lent store.new ≡ S.Store.lent store.old }
     {
         put_word::<K, S>(store, self.cell(global), word)
     }
 
-    // The word of a global.
+    /// The word of a global, between runs.
+    ///
+    /// # Errors
+    ///
+    /// 13 and 14 as for a post; 26 where the store refuses the cell or holds an unlawful word there, as only another store than the opened one can.
     pub fn reading<S: Store>(
         &self,
         store: &S,
         global: GlobalCell,
     ) -> Result<u32, Refusal<SessionCause>>
         ensures answer { result ≡ reading_of K.kind (S.Store.words store.now) (cell_in self.now global) }
-        ensures promise { Keeps K.kind (Reading global) self.now (S.Store.words store.now) (to_reading result) self.now (S.Store.words store.now) }
+        ensures promise { (rs : List Record) → Keeps K.kind rs (Reading global) self.now (S.Store.words store.now) (to_reading result) self.now (S.Store.words store.now) }
     {
         word_of::<K, S>(store, self.cell(global))
     }
@@ -158,10 +176,10 @@ fn put_word<K: NumberKind, S: Store>(
 {
     let cell = cell?;
     if !K::is_lawful(word) {
-        return Err(SessionCause::UnlawfulWord.refusal());
+        return Err(Refusal::without_line(SessionCause::UnlawfulWord));
     }
     let Ok(()) = store.put(cell, word) else {
-        return Err(SessionCause::StoreFails.refusal());
+        return Err(Refusal::without_line(SessionCause::StoreFails));
     };
     Ok(())
 }
@@ -175,6 +193,6 @@ fn word_of<K: NumberKind, S: Store>(
 {
     match store.load(cell?) {
         Some(word) if K::is_lawful(word) => Ok(word),
-        _ => Err(SessionCause::StoreFails.refusal()),
+        _ => Err(Refusal::without_line(SessionCause::StoreFails)),
     }
 }
