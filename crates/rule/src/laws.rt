@@ -5,7 +5,7 @@ ghost use Rattle.rule.specs.Fine.{MachineAgrees};
 ghost use Rattle.rule.specs.Handed.{HandedOver, StoresReadLawfully};
 ghost use Rattle.rule.specs.Laws.{Agrees};
 ghost use Rattle.rule.specs.Lawful.{StaysLawful};
-ghost use Rattle.rule.specs.Local.{GlobalsSuffice, Local};
+ghost use Rattle.rule.specs.Local.{ClosingsAlike, GlobalsSuffice, Local};
 ghost use Rattle.rule.specs.Resume.{Resumes};
 ghost use Rattle.rule.specs.Tidy.{NumbersFit, StaysTidy};
 
@@ -47,6 +47,11 @@ pub fn runs_locally()
 // and so a script's run by the rule depends on the globals alone, whatever the other cells hold.
 pub fn globals_suffice()
     ensures { GlobalsSuffice }
+{}
+
+// So from stores that agree on the globals it closes alike, and it is over with the same allowances.
+pub fn closings_alike()
+    ensures { ClosingsAlike }
 {}
 
 // What waits in a machine's run is at falling levels up to 512, so there are at most 513 statements of it, with cells in use that the size has,
