@@ -46,6 +46,5 @@ closings_alike K size low high ls few s n σ τ e =
     let P = program_of ls s.text in
     let o = over_alike K size low high ls few s n σ τ e in (
       closes_alike K size low high ls few s n σ τ e,
-      (λ i. true_over K P size τ n (sym o ∙ over_true K P size σ n i)),
-      (λ i. true_over K P size σ n (o ∙ over_true K P size τ n i)),
+      ((λ i. true_over K P size τ n (sym o ∙ over_true K P size σ n i)), (λ i. true_over K P size σ n (o ∙ over_true K P size τ n i))),
     )

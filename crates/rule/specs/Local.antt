@@ -1,5 +1,5 @@
 -- Cells that are not in use do not matter: the machine's runs from stores that agree on the cells in use end alike.
-use Rattle.std.specs.Prelude.{◌≡◌, ℕ, ◌+◌, ◌<◌, ◌≤◌, List, [], ◌∷◌, length, take, ℤ}
+use Rattle.std.specs.Prelude.{◌≡◌, ℕ, ◌+◌, ◌<◌, ◌≤◌, ◌↔◌, List, [], ◌∷◌, length, take, ℤ}
 use Rattle.kinds.specs.Arithmetic.{Arithmetic}
 use Rattle.script.specs.Names.{Names, Standing, nothing, cell, cells, code}
 use Rattle.rule.specs.Rewriting.{Halt}
@@ -62,4 +62,4 @@ ClosingsAlike = (K : Arithmetic) (size : ℕ) (low high : ℤ) (ls : List Line) 
     → (n : ℕ) (σ τ : List ℕ) → Agree (globals_of ls).taken σ τ
     → let P = program_of ls s.text in
     ((c d : Closing) → Closes K P size σ n c → Closes K P size τ n d → SameClosing (globals_of ls).taken c d)
-    × (IsOver K P size σ n → IsOver K P size τ n) × (IsOver K P size τ n → IsOver K P size σ n)
+    × (IsOver K P size σ n ↔ IsOver K P size τ n)
