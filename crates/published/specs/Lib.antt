@@ -1,4 +1,5 @@
 pub mod Double
+pub mod Runs
 pub mod Cases
 pub mod Scopes
 pub mod Session

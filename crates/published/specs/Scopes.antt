@@ -6,12 +6,12 @@ use Rattle.lines.specs.declared.sorts.Relation.TheVariants.{Equal}
 use Rattle.lines.specs.declared.records.Line.{Line}
 use Rattle.script.specs.IsScript.{IsScript}
 use Rattle.rule.specs.Rewriting.{finished}
-use Rattle.rule.specs.Closing.{Closes, program_of}
+use Rattle.published.specs.Runs.{Run}
 
--- the lines are a script, and from the first global store it finishes, with this count and global store
+-- the lines are a script, and from these words of its globals it finishes, with this count and these words
 pub record Finishes (ls : List Line) (first : List ℕ) (count : ℕ) (last : List ℕ) : Type 0 where
   pub is_script : IsScript whole.least whole.most ls
-  pub closes : (s : IsScript whole.least whole.most ls) → Closes whole (program_of ls s.text) 64 first 1000 (record { ending = finished; count = count; globals = last })
+  pub closes : Run ls 64 first 1000 finished count last
 
 -- a procedure assigns to a global through its variable formal
 abbrev pub through_formal : List Line

@@ -1,5 +1,5 @@
 -- The names of a told-apart text are in order.
-use Rattle.std.proofs.Common.{◌≡◌, ℕ, zero, suc, ◌+◌, ◌<◌, ◌≤◌, Bool, true, false, T, eqb, leb, ◌⊎◌, List, [], ◌∷◌, ◌++◌, length, sym, refl, ap, ◌∙◌, subst, inl, inr, arith, leb→le}
+use Rattle.std.proofs.Common.{◌≡◌, ℕ, zero, suc, ◌+◌, ◌<◌, ◌≤◌, Bool, true, false, T, eqb, leb, ◌⊎◌, List, [], ◌∷◌, ◌++◌, length, sym, refl, ap, ◌∙◌, subst, inl, inr, le_refl, arith, leb→le}
 use Rattle.script.specs.Script.{Place, simple, element, fixed, Expression, constant, word_of, work, choose, Condition, truth, compared, negated, implies}
 use Rattle.script.specs.Script.{Statement, assign, both, branch, call, new_simple, new_array, system, Declarations, procedure, joined, only}
 use Rattle.script.specs.Names.{Names, Standing, nothing, cell, cells}
@@ -336,25 +336,25 @@ below_kind G f x h = go (leb f x) (λ t. leb→le f x t)
     go true k = let l = k tt in absurd (omega arith)
     go false k = refl
 
-module _ (n : ℕ) (g : Globals) (i : Before n g) (few : n ≤ 2049) where
+module _ (n : ℕ) (g : Globals) (i : Before n g) (few : n ≤ 2049) (f : ℕ) (above : first_fresh ≤ f) where
   start_each : (k : Kind) (ps : List (ℕ × ℕ)) → Each (λ p. (start_kind (g.names p.1) ≡ k) × (p.1 < own n)) ps
-      → Each (λ p. start_kinds g.names first_fresh p.1 ≡ k) ps
-  start_each k = each_map (λ p. (start_kind (g.names p.1) ≡ k) × (p.1 < own n)) (λ p. start_kinds g.names first_fresh p.1 ≡ k)
-      (λ p h. let l = h.1 in below_kind g.names first_fresh p.1 (omega arith) ∙ h.0)
+      → Each (λ p. start_kinds g.names f p.1 ≡ k) ps
+  start_each k = each_map (λ p. (start_kind (g.names p.1) ≡ k) × (p.1 < own n)) (λ p. start_kinds g.names f p.1 ≡ k)
+      (λ p h. let l = h.1 in below_kind g.names f p.1 (omega arith) ∙ h.0)
 
-  start_fits : Fits (start_kinds g.names first_fresh) g.scope
+  start_fits : Fits (start_kinds g.names f) g.scope
   start_fits = record {
     simples = start_each a_simple g.scope.simples i.simples;
     arrays = start_each an_array g.scope.arrays i.arrays;
-    procs = each_map (λ p. ⊥) (λ p. start_kinds g.names first_fresh p.1 ≡ a_procedure) (λ p h. absurd h) g.scope.procs i.procs;
+    procs = each_map (λ p. ⊥) (λ p. start_kinds g.names f p.1 ≡ a_procedure) (λ p h. absurd h) g.scope.procs i.procs;
   }
 
-  start_free : (l : ℕ) → (n ≤ l) × (l < 2049) → LineFree (start_kinds g.names first_fresh) l
+  start_free : (l : ℕ) → (n ≤ l) × (l < 2049) → LineFree (start_kinds g.names f) l
   start_free l h =
       let a = h.1 in let e = i.rest l h.0 in (
-        below_kind g.names first_fresh (own l) (omega arith) ∙ ap start_kind e.0,
-        below_kind g.names first_fresh (own_value l) (omega arith) ∙ ap start_kind e.1,
-        below_kind g.names first_fresh (own_variable l) (omega arith) ∙ ap start_kind e.2,
+        below_kind g.names f (own l) (omega arith) ∙ ap start_kind e.0,
+        below_kind g.names f (own_value l) (omega arith) ∙ ap start_kind e.1,
+        below_kind g.names f (own_variable l) (omega arith) ∙ ap start_kind e.2,
       )
 
 -- what the globals are is all that a text's names start from
@@ -386,12 +386,13 @@ fine_by_globals ls t scoped once placed =
     fine_apart t g.scope κ (global_fits (past_globals ls) g i) scoped once
     (each_map (λ l. past_globals ls ≤ l) (LineFree κ) (global_free (past_globals ls) g i) (declaring_lines t) placed)
 
-pub fine_told : (ls : List Line) (t : Statement) → past_globals ls ≤ 2049 → Scoped (globals_of ls).scope t → EachOnce (declaring_lines t)
-    → Each (λ l. (past_globals ls ≤ l) × (l < 2049)) (declaring_lines t)
-    → Fine (start_kinds (globals_of ls).names first_fresh) (statement_apart (globals_of ls).scope t)
-fine_told ls t few scoped once placed =
-    fine_apart t g.scope (start_kinds g.names first_fresh) (start_fits (past_globals ls) g i few) scoped once
-    (each_map (λ l. (past_globals ls ≤ l) × (l < 2049)) (LineFree (start_kinds g.names first_fresh)) (start_free (past_globals ls) g i few) (declaring_lines t) placed)
+-- where its fresh names start at f, above those that the sheet has for its own, a text's names are in order
+fine_from : (ls : List Line) (t : Statement) → past_globals ls ≤ 2049 → Scoped (globals_of ls).scope t → EachOnce (declaring_lines t)
+    → Each (λ l. (past_globals ls ≤ l) × (l < 2049)) (declaring_lines t) → (f : ℕ) → first_fresh ≤ f
+    → Fine (start_kinds (globals_of ls).names f) (statement_apart (globals_of ls).scope t)
+fine_from ls t few scoped once placed f above =
+    fine_apart t g.scope (start_kinds g.names f) (start_fits (past_globals ls) g i few f above) scoped once
+    (each_map (λ l. (past_globals ls ≤ l) × (l < 2049)) (LineFree (start_kinds g.names f)) (start_free (past_globals ls) g i few f above) (declaring_lines t) placed)
   where
     g : Globals
     g = globals_of ls
@@ -399,7 +400,12 @@ fine_told ls t few scoped once placed =
     i : Before (past_globals ls) g
     i = before_text ls
 
+pub fine_told : (ls : List Line) (t : Statement) → past_globals ls ≤ 2049 → Scoped (globals_of ls).scope t → EachOnce (declaring_lines t)
+    → Each (λ l. (past_globals ls ≤ l) × (l < 2049)) (declaring_lines t)
+    → Fine (start_kinds (globals_of ls).names first_fresh) (statement_apart (globals_of ls).scope t)
+fine_told ls t few scoped once placed = fine_from ls t few scoped once placed first_fresh (le_refl first_fresh)
+
 pub told_agrees : ToldAgrees
-told_agrees K size fetch ls t few scoped once placed n level used σ =
-    machine_agrees K size fetch (record { names = (globals_of ls).names; fresh = first_fresh; store = σ })
-    (statement_apart (globals_of ls).scope t) (fine_told ls t few scoped once placed) n level used
+told_agrees K size fetch ls t few scoped once placed fresh above n level used σ =
+    machine_agrees K size fetch (record { names = (globals_of ls).names; fresh = fresh; store = σ })
+    (statement_apart (globals_of ls).scope t) (fine_from ls t few scoped once placed fresh above) n level used

@@ -51,7 +51,7 @@ module _ (κ₀ : Kinds) where
   kinds_of (with_array a b n f m) = only a an_array (kinds_of m)
   kinds_of (with_system d f m) = with_procedures d (kinds_of m)
 
-  -- a name that no declaration of the text has, below the least fresh one
+  -- a name that no declaration of the text has, below the next fresh one
   abbrev pub Outer : ℕ → ℕ → Type 0
   Outer fresh n = (¬ (κ₀ n ≡ unused)) × (n < fresh)
 

@@ -12,22 +12,23 @@ use Rattle.rule.specs.Rewriting.{rewrite}
 use Rattle.rule.specs.Machine.{outside, machine}
 use Rattle.rule.specs.Closing.{own_room}
 
-module _ (K : Arithmetic) (size : ℕ) (fetch : List ℕ → ℕ → Work ℕ) (ls : List Line) (t : Statement) where
-  -- from every store, with every allowance, both come to the same halt, where every put is taken
+module _ (K : Arithmetic) (size : ℕ) (fetch : List ℕ → ℕ → Work ℕ) (ls : List Line) (t : Statement) (fresh : ℕ) where
+  -- from every store, with every allowance, both come to the same halt, where every put is taken and the rule's fresh names are those from one on
   abbrev pub GoTogether : Type 0
   GoTogether = (n level used : ℕ) (σ : List ℕ)
       → machine K size fetch own_room (globals_of ls).names n
       (record { text = statement_apart (globals_of ls).scope t; level = level; used = used; env = outside } ∷ []) σ
       ≡ rewrite K size fetch n (record { text = statement_apart (globals_of ls).scope t; level = level; used = used } ∷ [])
-      (record { names = (globals_of ls).names; fresh = first_fresh; store = σ })
+      (record { names = (globals_of ls).names; fresh = fresh; store = σ })
 
--- a text under the globals of a sheet: its names are declared, and its declaring lines are distinct, behind the globals and below 2049
+-- a text under the globals of a sheet: its names are declared, and its declaring lines are distinct, behind the globals and below 2049;
+-- its fresh names may start anywhere above the sheet's own
 abbrev pub ToldAgrees : Type 0
 ToldAgrees = (K : Arithmetic) (size : ℕ) (fetch : List ℕ → ℕ → Work ℕ) (ls : List Line) (t : Statement) → past_globals ls ≤ 2049
     → Scoped (globals_of ls).scope t → EachOnce (declaring_lines t) → Each (λ l. (past_globals ls ≤ l) × (l < 2049)) (declaring_lines t)
-    → GoTogether K size fetch ls t
+    → (fresh : ℕ) → first_fresh ≤ fresh → GoTogether K size fetch ls t fresh
 
 -- every script of at most 2,048 lines, for every kind, size and store that takes every put
 abbrev pub AcceptedAgrees : Type 0
 AcceptedAgrees = (K : Arithmetic) (size : ℕ) (fetch : List ℕ → ℕ → Work ℕ) (low high : ℤ) (ls : List Line) → length ls ≤ 2048
-    → (s : IsScript low high ls) → GoTogether K size fetch ls s.text
+    → (s : IsScript low high ls) → GoTogether K size fetch ls s.text first_fresh

@@ -11,7 +11,7 @@ use Rattle.rule.specs.Machine.{Item, outside}
 use Rattle.rule.specs.CopyRule.{Outcome, through, halts, Runs}
 
 -- a script as the rule runs it: its text with the declarations told apart, what the globals' names stand for, how many cells they take,
--- and the least name that is not in the text
+-- and the first fresh name, above all names of the text
 pub record Program : Type 0 where
   pub text : Statement
   pub names : Names

@@ -8,6 +8,7 @@ pub mod Closing
 pub mod Count
 pub mod Fine
 pub mod Agreement
+pub mod FreshNames
 pub mod Resume
 pub mod Local
 pub mod Tidy

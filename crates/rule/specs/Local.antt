@@ -1,5 +1,5 @@
 -- Cells that are not in use do not matter: the machine's runs from stores that agree on the cells in use end alike.
-use Rattle.std.specs.Prelude.{◌≡◌, ℕ, ◌+◌, ◌<◌, ◌≤◌, List, [], ◌∷◌, length, take, ℤ}
+use Rattle.std.specs.Prelude.{◌≡◌, ℕ, ◌+◌, ◌<◌, ◌≤◌, ◌↔◌, List, [], ◌∷◌, length, take, ℤ}
 use Rattle.kinds.specs.Arithmetic.{Arithmetic}
 use Rattle.script.specs.Names.{Names, Standing, nothing, cell, cells, code}
 use Rattle.rule.specs.Rewriting.{Halt}
@@ -7,7 +7,7 @@ use Rattle.rule.specs.Machine.{Env, outside, simple_in, array_in, system_in, Ite
 use Rattle.lines.specs.declared.records.Line.{Line}
 use Rattle.script.specs.Apart.{globals_of, first_fresh}
 use Rattle.script.specs.IsScript.{IsScript}
-use Rattle.rule.specs.Closing.{own_fetch, own_room, program_of, start}
+use Rattle.rule.specs.Closing.{Closing, Closes, IsOver, own_fetch, own_room, program_of, start}
 use Rattle.rule.specs.Rewriting.{rewrite}
 
 -- cells of a name below u
@@ -49,3 +49,17 @@ GlobalsSuffice = (K : Arithmetic) (size : ℕ) (low high : ℤ) (ls : List Line)
     → (n : ℕ) (σ τ : List ℕ) → Agree (globals_of ls).taken σ τ
     → let run : List ℕ → Halt = λ store. rewrite K size own_fetch n (start (program_of ls s.text)) (record { names = (globals_of ls).names; fresh = first_fresh; store = store }) in
     SameHalt (globals_of ls).taken (run σ) (run τ)
+
+-- closings that tell the same of the globals' cells
+pub record SameClosing (taken : ℕ) (c d : Closing) : Type 0 where
+  pub ending : c.ending ≡ d.ending
+  pub count : c.count ≡ d.count
+  pub store : Agree taken c.store d.store
+
+-- and so, with every allowance: equal endings, counts and globals in its closings, and it is over from the one store exactly where it is from the other
+abbrev pub ClosingsAlike : Type 0
+ClosingsAlike = (K : Arithmetic) (size : ℕ) (low high : ℤ) (ls : List Line) → length ls ≤ 2048 → (s : IsScript low high ls)
+    → (n : ℕ) (σ τ : List ℕ) → Agree (globals_of ls).taken σ τ
+    → let P = program_of ls s.text in
+    ((c d : Closing) → Closes K P size σ n c → Closes K P size τ n d → SameClosing (globals_of ls).taken c d)
+    × (IsOver K P size σ n ↔ IsOver K P size τ n)

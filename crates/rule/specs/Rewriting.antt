@@ -13,7 +13,7 @@ pub record Pending : Type 0 where
   pub level : ℕ
   pub used : ℕ
 
--- what each name stands for, the least name that stands nowhere yet, and the store
+-- what each name stands for, the next fresh name, and the store; a run counts its fresh names up from above all names of its text, and uses each once
 pub record Situation : Type 0 where
   pub names : Names
   pub fresh : ℕ

@@ -15,7 +15,7 @@ own_value l = 4 * l + 1
 abbrev pub own_variable : ℕ → ℕ
 own_variable l = 4 * l + 2
 
--- the least name that no line of a sheet has for its own
+-- the first fresh name: it and those after it are above every line's own, on a sheet of at most 2,048 lines
 abbrev pub first_fresh : ℕ
 first_fresh = 4 * 2049
 
