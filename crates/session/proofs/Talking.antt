@@ -5,15 +5,14 @@ use Rattle.kinds.specs.Arithmetic.{Arithmetic}
 use Rattle.lines.specs.declared.records.Record.{Record}
 use Rattle.acceptance.specs.Scripts.{Accepted}
 use Rattle.calls.specs.declared.asked.Call.{Call}
-use Rattle.calls.specs.declared.asked.Call.TheVariants.{Post}
-use Rattle.acceptance.specs.declared.globals.GlobalSort.TheVariants.{Simple}
+use Rattle.calls.specs.declared.asked.Call.TheVariants.{Open}
 use Rattle.calls.specs.History.{History, Reply, call_of, reply_of}
 use Rattle.session.specs.Sessions.{Held}
 use Rattle.session.specs.Promise.{Keeps, StandsAfter, Talked}
 
 -- a call to look up by default
 abbrev pub blank : Call
-blank = Post (record { sort = Simple; name = 0; index = 0 }) 0
+blank = Open
 
 -- what is the same from one place on is so from the next
 pub one_further : {A : Type 0} (i : ℕ) (us vs : List A) → drop i us ≡ drop i vs → drop (i + 1) us ≡ drop (i + 1) vs

@@ -15,8 +15,8 @@ use engine::State as Reached;
 use faults::Ending;
 use kinds::NumberKind;
 use lines::records::LineNumber;
-use text::refusals::Refusal;
 use stores::Store;
+use text::refusals::Refusal;
 
 /// Whether something is left to do in a run.
 #[derive(Clone, Copy, PartialEq, Eq, Debug)]
@@ -131,7 +131,9 @@ impl<'s, 'r, K: NumberKind> Session<'s, 'r, K> {
         };
         let begun = match (self.state, opened.runs == run) {
             (State::Running { count }, true) => count,
-            (State::Over { .. }, true) => return Err(Refusal::without_line(SessionCause::RunIsOver)),
+            (State::Over { .. }, true) => return Err(Refusal::without_line(
+                SessionCause::RunIsOver,
+            )),
             _ => return Err(Refusal::without_line(SessionCause::NoSuchRun)),
         };
         if count == 0 || begun.checked_add(count).is_none() {

@@ -19,9 +19,9 @@ use engine::Engine;
 use faults::Ending;
 use kinds::NumberKind;
 use lines::records::Role;
-use text::refusals::Refusal;
 use std::marker::Model;
 use stores::Store;
+use text::refusals::Refusal;
 
 // What stays of a session from its opening on, and how many runs were begun.
 #[derive(Drop)]

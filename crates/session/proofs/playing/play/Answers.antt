@@ -1,31 +1,23 @@
 use Rattle.std.proofs.Common.{◌≡◌, ◌+◌, ◌<◌, [], ◌∷◌, ◌++◌, length, get_or, set, take, drop, sym, refl, ◌∙◌, subst, subst₂, arith}
 use Rattle.std.proofs.lemmas.List.{get_or-take, length-take, take_more, take_more_set, drop-set-lt}
-use Rattle.calls.proofs.Alike.{alike, one_reply}
+use Rattle.calls.proofs.Counting.{begun_all}
+use Rattle.calls.proofs.Replies.{one_reply}
 use Rattle.faults.proofs.Known.{closings_known}
 use Rattle.session.specs.Promise.{Keeps, Talked}
 use Rattle.session.proofs.Talking.{Spoken, blank, one_further, spoken_first, spoken_more, talked}
 use Rattle.session.proofs.playing.play.Goals as goal
 
-pub returns-in_err-open-clause-alike : goal.returns-in_err-open-clause-alike
-returns-in_err-open-clause-alike g c = alike
-
-pub returns-clause-alike : goal.returns-clause-alike
-returns-clause-alike g c = alike
-
-pub returns-in_err-open-clause-one_reply : goal.returns-in_err-open-clause-one_reply
-returns-in_err-open-clause-one_reply g c = one_reply
-
 pub returns-clause-one_reply : goal.returns-clause-one_reply
 returns-clause-one_reply g c = one_reply
 
-pub returns-in_err-open-clause-endings : goal.returns-in_err-open-clause-endings
-returns-in_err-open-clause-endings g c = closings_known
+pub returns-clause-begun_all : goal.returns-clause-begun_all
+returns-clause-begun_all g c = begun_all
 
 pub returns-clause-endings : goal.returns-clause-endings
 returns-clause-endings g c = closings_known
 
 pub loop-i-init : goal.loop-i-init
-loop-i-init g c = ((λ a. spoken_first g.K.NumberKind.kind c.args.script.now a (g.S.Store.words c.args.store.now) c.open.new.self (c.in_ok-open.ensures.promise a)), refl, refl)
+loop-i-init g c = ((λ a. spoken_first g.K.NumberKind.kind c.args.script.now a (g.S.Store.words c.args.store.now) c.unopened-session.result (c.unopened-session.ensures.promise c.args.script.now a (g.S.Store.words c.args.store.now))), refl, refl)
 
 pub loop-i-preserved : goal.loop-i-preserved
 loop-i-preserved g c =
@@ -41,7 +33,7 @@ loop-i-preserved g c =
     let place : i < length c.loop-i.replies = let e = c.loop-i.auto.replies in omega (arith, h, most, e) in
     let q = get_or qs i blank in
     let at : get_or (take c.min-count.result qs) i blank ≡ q = get_or-take c.min-count.result qs i blank h in
-    let promise = subst (λ x. Keeps K x c.loop-i.session (g.S.Store.words c.loop-i.store) c.make.result c.make.new.self (g.S.Store.words c.make.new.store)) at c.make.ensures.promise in
+    let promise = subst (λ x. Keeps K rs x c.loop-i.session (g.S.Store.words c.loop-i.store) c.make.result c.make.new.self (g.S.Store.words c.make.new.store)) at c.make.ensures.promise in
     let asked : take (i + 1) qs ≡ take i qs ++ q ∷ [] = take_more qs i blank there in
     let told : take (i + 1) (set c.loop-i.replies i c.make.result) ≡ take i c.loop-i.replies ++ c.make.result ∷ [] = take_more_set c.loop-i.replies i c.make.result place in (
       (λ a. subst₂ (λ x y. Spoken K rs a σ x y c.make.new.self (g.S.Store.words c.make.new.store)) (sym asked) (sym told)
