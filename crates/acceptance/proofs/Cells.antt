@@ -10,18 +10,18 @@ use Rattle.lines.specs.declared.records.Declaration.{Declaration}
 use Rattle.script.specs.Names.{Names, Standing, cell, cells}
 use Rattle.script.specs.Apart.{Globals, found, global_of, globals_from, globals_of, heads, no_globals, own}
 use Rattle.script.specs.Lists.{Each}
-use Rattle.script.proofs.Lists.{each_left, each_right}
+use Rattle.script.proofs.Lists.{each_append, each_left, each_right}
 use Rattle.standing.specs.Records.{RoleRight, own_name}
 use Rattle.acceptance.specs.declared.declared.Sought.{Sought}
-use Rattle.acceptance.specs.declared.declared.Sought.TheVariants.{Simple, Array}
+use Rattle.acceptance.specs.declared.declared.Sought.TheVariants.{Simple, Array, Procedure}
 use Rattle.acceptance.specs.declared.globals.GlobalSort.{GlobalSort}
 use Rattle.acceptance.specs.declared.globals.GlobalSort.TheVariants as Sort
 use Rattle.acceptance.specs.Sheet.{lines_of}
-use Rattle.acceptance.specs.Scopes.{Entry, cells_of, global_declared, global_entries, global_entry, when}
-use Rattle.acceptance.specs.Scripts.{cells_told, global_standing, standing_of}
+use Rattle.acceptance.specs.Scopes.{Entry, cells_of, global_declared, global_entries, global_entry, sought_for, when}
+use Rattle.acceptance.specs.Scripts.{global_role, global_standing, role_of}
 use Rattle.acceptance.proofs.Innermost.{found_pick, globals_picked, known, none_some, own_of, pick}
 use Rattle.acceptance.proofs.Listing.{heads_more, heads_stop}
-use Rattle.acceptance.proofs.Roles.{Holds, Right, global_right_there, globals_right, no_name, taken_more}
+use Rattle.acceptance.proofs.Roles.{Holds, Right, global_right_there, globals_right, holds_last, no_name, taken_more}
 
 -- ## Cells
 
@@ -102,12 +102,36 @@ module _ (rs : List Record) where
 
 -- ## What a global stands for
 
-role_tells : (G : Names) (l : ℕ) (r : Role) → RoleRight G l r → cells_told r ≡ G (own_name l r)
-role_tells G l Declared h = sym h
-role_tells G l ValueFormal h = sym h
-role_tells G l VariableFormal h = sym h
-role_tells G l (GlobalSimple c) h = sym h
-role_tells G l (GlobalArray b n) h = sym h
+-- the globals' roles
+abbrev OfGlobal : Role → Type 0
+OfGlobal Declared = ⊥
+OfGlobal ValueFormal = ⊥
+OfGlobal VariableFormal = ⊥
+OfGlobal (GlobalSimple c) = Unit {0}
+OfGlobal (GlobalArray b n) = Unit {0}
+
+abbrev EntryOfGlobal : Entry → Type 0
+EntryOfGlobal e = OfGlobal e.1.role
+
+one_of_global : (k : Sought) (n c a b : ℕ) → Each EntryOfGlobal (global_entry k n c a b)
+one_of_global Simple n c a zero = (tt, tt)
+one_of_global Simple n c a (suc b) = tt
+one_of_global Array n c a zero = tt
+one_of_global Array n c a (suc b) = (tt, tt)
+one_of_global Procedure n c a b = tt
+
+all_of_globals : (k : Sought) (n c : ℕ) (gs : List (ℕ × ℕ)) → Each EntryOfGlobal (global_entries k n c gs)
+all_of_globals k n c [] = tt
+all_of_globals k n c (g ∷ gs) =
+    each_append EntryOfGlobal (global_entry k n c g.0 g.1) (global_entries k (suc n) (c + cells_of g.1) gs) (one_of_global k n c g.0 g.1) (all_of_globals k (suc n) (c + cells_of g.1) gs)
+
+-- a global's role is what the name of its own stands for
+role_tells : (G : Names) (l : ℕ) (r : Role) → OfGlobal r → RoleRight G l r → ◌≡◌ {A = Option Role} (Some r) (role_of (G (own_name l r)))
+role_tells G l Declared g h = absurd g
+role_tells G l ValueFormal g h = absurd g
+role_tells G l VariableFormal g h = absurd g
+role_tells G l (GlobalSimple c) g h = ap role_of (sym h)
+role_tells G l (GlobalArray b n) g h = ap role_of (sym h)
 
 unfound : (ps : List (ℕ × ℕ)) (a : ℕ) → pick ps a ≡ None → found ps a ≡ 0
 unfound [] a h = refl
@@ -117,18 +141,31 @@ unfound (p ∷ ps) a h = go (eqb p.0 a) (unfound ps a) h
     go true i e = absurd (none_some p.1 (sym e))
     go false i e = i e
 
--- the declaration that is found tells what the name stands for
-pub standing_found : (k : Sought) (a : ℕ) (ls : List Line)
-    → standing_of (global_declared k a ls) ≡ (globals_of ls).names (found (known k (globals_of ls).scope) a)
-standing_found k a ls = go (global_declared k a ls) (globals_picked a k ls) (global_right_there ls k a)
+abbrev pub role_in : Option Declaration → Option Role
+role_in None = None
+role_in (Some d) = Some d.role
+
+-- the role of the declaration that is found is what the name stands for
+role_found : (k : Sought) (a : ℕ) (ls : List Line)
+    → role_in (global_declared k a ls) ≡ role_of ((globals_of ls).names (found (known k (globals_of ls).scope) a))
+role_found k a ls =
+    go (global_declared k a ls) (globals_picked a k ls) (global_right_there ls k a) (holds_last (λ d. OfGlobal d.role) (global_entries k 1 0 (heads ls)) a (all_of_globals k 1 0 (heads ls)))
   where
     G : Names
     G = (globals_of ls).names
 
-    go : (o : Option Declaration) → pick (known k (globals_of ls).scope) a ≡ own_of o → Holds (λ d. RoleRight G d.line d.role) o
-        → standing_of o ≡ G (found (known k (globals_of ls).scope) a)
-    go None e h = sym (ap G (unfound (known k (globals_of ls).scope) a e) ∙ no_name ls)
-    go (Some d) e h = role_tells G d.line d.role h ∙ ap G (sym (found_pick (known k (globals_of ls).scope) a (own_name d.line d.role) e))
+    go : (o : Option Declaration) → pick (known k (globals_of ls).scope) a ≡ own_of o → Holds (λ d. RoleRight G d.line d.role) o → Holds (λ d. OfGlobal d.role) o
+        → role_in o ≡ role_of (G (found (known k (globals_of ls).scope) a))
+    go None e h g = ap role_of (sym (ap G (unfound (known k (globals_of ls).scope) a e) ∙ no_name ls))
+    go (Some d) e h g = role_tells G d.line d.role g h ∙ ap (λ x. role_of (G x)) (sym (found_pick (known k (globals_of ls).scope) a (own_name d.line d.role) e))
+
+role_of_sort : (s : GlobalSort) (a : ℕ) (ls : List Line) → role_in (global_declared (sought_for s) a ls) ≡ global_role ls s a
+role_of_sort Sort.Simple a ls = role_found Simple a ls
+role_of_sort Sort.Array a ls = role_found Array a ls
+
+-- and so is that of the global of a sort
+pub role_of_global : (s : GlobalSort) (a : ℕ) (ls : List Line) (k : Sought) (o : Option Declaration) → k ≡ sought_for s → o ≡ global_declared k a ls → role_in o ≡ global_role ls s a
+role_of_global s a ls k o h e = ap role_in e ∙ (ap (λ z. role_in (global_declared z a ls)) h ∙ role_of_sort s a ls)
 
 -- and that is what some line's own name stands for: 0 is no line's, and stands for nothing
 module _ (ls : List Line) (a : ℕ) where

@@ -16,3 +16,5 @@ pub mod Belonging
 pub mod Filling
 pub mod Reading
 pub mod Stages
+pub mod Stands
+pub mod Stable

@@ -11,7 +11,6 @@ use Rattle.script.specs.IsScript.{IsScript}
 use Rattle.script.specs.Causes.{Refused, number_of}
 use Rattle.script.proofs.Verdict.{one_verdict}
 use Rattle.standing.specs.Records.{Resolved}
-use Rattle.standing.proofs.Stand.{records_stand}
 use Rattle.acceptance.specs.declared.verdict.SheetCause.{SheetCause}
 use Rattle.acceptance.specs.declared.verdict.SheetCause.TheVariants.{OutOfForm, NameAgain, Undeclared, TooDeep, OutOfKind}
 use Rattle.acceptance.specs.declared.scripts.ScriptCause.{ScriptCause}
@@ -64,7 +63,7 @@ module _ (low high : ℤ) where
   accepted ls rs few s r =
       let t : IsScript low high (lines_of rs) = subst (IsScript low high) (sym r.lines) s in
       let u : Resolved (lines_of rs) rs = subst (λ ks. Resolved ks rs) (sym r.lines) r in
-      record { few = few; script = t; resolved = u; stands = records_stand low high (lines_of rs) t rs u }
+      record { few = few; script = t; resolved = u }
 
   -- what is left where the lines that were read are a script: `part` is what acceptance leaves of their records
   pub left : (o : Outcome) (old read part : List Record) (n : ℕ) → n ≡ length o.lines → n ≤ 2048 → read ≡ filled o.lines old

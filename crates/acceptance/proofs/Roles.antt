@@ -33,7 +33,7 @@ holds_when : {A : Type 0} (P : A → Type 0) (b : Bool) (a : A) → P a → Hold
 holds_when P true a h = h
 holds_when P false a h = tt
 
-holds_last : (P : Declaration → Type 0) (es : List Entry) (a : ℕ) → Each (λ e. P e.1) es → Holds P (last_declared es a)
+pub holds_last : (P : Declaration → Type 0) (es : List Entry) (a : ℕ) → Each (λ e. P e.1) es → Holds P (last_declared es a)
 holds_last P [] a h = tt
 holds_last P (e ∷ es) a h = holds_or P (last_declared es a) (when (eqb e.0 a) e.1) (holds_last P es a h.1) (holds_when P (eqb e.0 a) e.1 h.0)
 

@@ -5,3 +5,4 @@ pub mod Depths
 pub mod Scopes
 pub mod Verdict
 pub mod Scripts
+pub mod Readings

@@ -7,6 +7,8 @@ use Rattle.lines.specs.declared.records.Role.{Role}
 use Rattle.lines.specs.declared.records.Role.TheVariants.{Declared, ValueFormal, VariableFormal, GlobalSimple, GlobalArray}
 use Rattle.lines.specs.declared.records.Declaration.{Declaration}
 use Rattle.acceptance.specs.declared.globals.Globals.{Globals}
+use Rattle.acceptance.specs.declared.globals.GlobalSort.{GlobalSort}
+use Rattle.acceptance.specs.declared.globals.GlobalSort.TheVariants as Global
 use Rattle.acceptance.specs.declared.declared.Sought.{Sought}
 use Rattle.acceptance.specs.declared.declared.Sought.TheVariants.{Simple, Array, Procedure}
 use Rattle.script.specs.Tree.{line}
@@ -73,6 +75,11 @@ abbrev pub entries : Sought → (ℕ → List (ℕ × ℕ)) → ℕ → Naming �
 entries Simple Q p g = simple_entries p g
 entries Array Q p g = array_entries p g
 entries Procedure Q p g = system_entries Q g
+
+-- the sort of name that a sort of global has
+abbrev pub sought_for : GlobalSort → Sought
+sought_for Global.Simple = Simple
+sought_for Global.Array = Array
 
 -- how many cells a global of that length takes
 abbrev pub cells_of : ℕ → ℕ

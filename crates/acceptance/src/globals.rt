@@ -3,21 +3,33 @@ ghost use Rattle.std.specs.Prelude.{◌≡◌, ◌≤◌, map, length, List};
 ghost use Rattle.lines.specs.declared.records.Line.{Line};
 ghost use Rattle.script.specs.Apart.{globals_of, heads};
 ghost use Rattle.acceptance.specs.Sheet.{lines_of};
-ghost use Rattle.acceptance.specs.Scopes.{cells_of, global_declared, global_entries, HasGlobals};
+ghost use Rattle.acceptance.specs.Scopes.{cells_of, global_declared, global_entries, HasGlobals, sought_for};
 
 use crate::declared::{ArrayDeclared, Named, SimpleDeclared, Sought, search};
 use arrayvec::ArrayVec;
 use lines::records::{Declaration, Line, LineNumber, Name, Record};
 use sheet::reader::MOST_LINES;
 
-// The two sorts of global.
+/// The two sorts of global: a global is found by its sort and its name, since a simple variable and an array may have the same name.
 #[derive(Clone, Copy, PartialEq, Eq, Debug)]
 pub enum GlobalSort {
     Simple,
     Array,
 }
 
-// How many cells a global of that length takes.
+impl GlobalSort {
+    // The sort of name that is looked up.
+    pub(crate) fn sought(self) -> Sought
+        ensures { result ≡ sought_for self }
+    {
+        match self {
+            GlobalSort::Simple => Sought::Simple,
+            GlobalSort::Array => Sought::Array,
+        }
+    }
+}
+
+/// How many cells a global of that length takes: one where the length is 0, which is that of a simple variable, and else as many as the length.
 pub fn cells_of(length: u16) -> u32
     ensures is { result ≡ cells_of length }
     ensures few { result ≤ 65535 }

@@ -1,27 +1,26 @@
-// Scripts: reading one from the text of a sheet, and the lines of one as a type.
-ghost use Rattle.std.specs.Prelude.{◌≡◌, ℕ, ◌≤◌, List, length, IfOk, Result, Some};
+// Scripts: what reading the text of a sheet comes to, and the lines of a script as a type.
+ghost use Rattle.std.specs.Prelude.{◌≡◌, List, Some};
 ghost use Rattle.script.specs.Apart.{globals_of};
 ghost use Rattle.lines.specs.declared.records.Record.{Record};
-ghost use Rattle.text.specs.declared.refusals.Refusal.{Refusal};
-ghost use Rattle.sheet.specs.Reading.{outcome};
-ghost use Rattle.acceptance.specs.declared.scripts.ScriptCause.{ScriptCause};
 ghost use Rattle.acceptance.specs.Scopes.{HasGlobals};
-ghost use Rattle.acceptance.specs.Scripts.{Accepted, LeftAs, RightAnswer, global_standing, script_meaning_of, script_number_of, standing_of};
+ghost use Rattle.acceptance.specs.Scripts.{Accepted, HasScript, global_role, script_meaning_of, script_number_of};
 ghost use Rattle.acceptance.specs.Sheet.{lines_of};
 
-use crate::declared::Sought;
 use crate::globals::{GlobalSort, Globals, cells_taken};
-use crate::verdict::{SheetCause, accept};
+use crate::verdict::SheetCause;
 use kinds::NumberKind;
-use lines::records::{Declaration, Name, Record};
+use lines::records::{Name, Record, Role};
 use lines::refusals::Cause;
-use text::refusals::Refusal;
-use sheet::reader::read_lines;
 use std::error::Error;
 use std::fmt;
 use std::marker::{Model, PhantomData};
 
-// Why a text is no script: for one of its lines, or for all of them together.
+mod read;
+
+pub use read::read_script;
+use text::refusals::Refusal;
+
+/// Why a text is no script: for one of its lines, or for all of them together.
 #[derive(Clone, Copy, PartialEq, Eq, Debug)]
 pub enum ScriptCause {
     OfLine(Cause),
@@ -41,7 +40,7 @@ impl From<ScriptCause> for u8 {
 }
 
 impl ScriptCause {
-    // What it means, in plain words.
+    /// What it means, in plain words.
     pub fn meaning(self) -> &'static str
         ensures { result.now ≡ script_meaning_of self }
     {
@@ -63,33 +62,42 @@ impl fmt::Display for ScriptCause {
 
 impl Error for ScriptCause {}
 
-// Reads a script for the number kind from a text into the records, one a line, and gives the number of its lines.
-pub fn read_script<K: NumberKind>(
-    text: &[u8],
-    records: &mut [Record],
-) -> Result<usize, Refusal<ScriptCause>>
-    ensures right { RightAnswer K.kind.least K.kind.most (outcome (length records.old) text.now) result }
-    ensures only { (s : Result ℕ (Refusal ScriptCause)) → RightAnswer K.kind.least K.kind.most (outcome (length records.old) text.now) s → s ≡ result }
-    ensures bound { IfOk result (λ count. count ≤ length records.old) }
-    ensures left { LeftAs K.kind.least K.kind.most (outcome (length records.old) text.now) records.old result records.new }
-{
-    let count = match read_lines(text, records) {
-        Ok(count) => count,
-        Err(Refusal { cause, line }) => return Err(Refusal {
-            cause: ScriptCause::OfLine(cause),
-            line,
-        }),
-    };
-    match accept::<K>(&mut records[..count]) {
-        Ok(()) => Ok(count),
-        Err(Refusal { cause, line }) => Err(Refusal {
-            cause: ScriptCause::OfSheet(cause),
-            line,
-        }),
+/// What came of reading a script for a number kind into lent records. Only `read_script` makes one, so a `Script` is always one that was read, and
+/// for its own kind.
+#[derive(Drop)]
+pub struct Reading<'r, K: NumberKind> {
+    lent: &'r mut [Record],
+    answer: Result<usize, Refusal<ScriptCause>>,
+    kind: PhantomData<K>,
+    ghost has_script: { ∥ HasScript K.kind.least K.kind.most answer lent.now ∥₁ },
+}
+
+impl<'r, K: NumberKind> Reading<'r, K> {
+    ghost use Rattle.acceptance.specs.Readings.{records_of, script_of};
+
+    /// The script that was read.
+    ///
+    /// # Errors
+    ///
+    /// The refusal, of one line or of all of them together, where the text is no script for the number kind.
+    pub fn script(&self) -> Result<Script<'_, K>, Refusal<ScriptCause>>
+        ensures { result ≡ script_of self.now }
+    {
+        match self.answer {
+            Ok(count) => Ok(Script::new(&self.lent[..count])),
+            Err(refusal) => Err(refusal),
+        }
+    }
+
+    /// All the records that were lent, as the reading left them, also at a refusal.
+    pub fn records(&self) -> &[Record]
+        ensures { result.now ≡ records_of self.now }
+    {
+        self.lent
     }
 }
 
-// The lines of a script for a number kind, which is what a session opens, and its globals, listed once.
+/// The lines of a script for a number kind, which is what a session opens, and its globals, listed once. A `Reading` gives it.
 #[derive(Drop)]
 pub struct Script<'r, K: NumberKind> {
     records: &'r [Record],
@@ -106,9 +114,8 @@ impl<'r, K: NumberKind> Model for Script<'r, K> {
 }
 
 impl<'r, K: NumberKind> Script<'r, K> {
-    // The records as `read_script` left them for this number kind. It asks for that, since others would be a misuse that no run should meet:
-    // the check refuses a program that hands in anything else.
-    pub fn new(records: &'r [Record]) -> Script<'r, K>
+    // The records as `read_script` left them for this number kind.
+    fn new(records: &'r [Record]) -> Script<'r, K>
         requires { Accepted K.kind.least K.kind.most records.now }
         ensures { result ≡ records.now }
     {
@@ -119,7 +126,7 @@ impl<'r, K: NumberKind> Script<'r, K> {
         }
     }
 
-    // Its records, a line each.
+    /// Its records, a line each, at most 2048.
     pub fn records(&self) -> &'r [Record]
         ensures is { result.now ≡ self.now }
         ensures accepted { Accepted K.kind.least K.kind.most self.now }
@@ -127,21 +134,19 @@ impl<'r, K: NumberKind> Script<'r, K> {
         self.records
     }
 
-    // How many cells its globals take.
+    /// How many cells its globals take.
     pub fn cells(&self) -> u32
         ensures { result ≡ (globals_of (lines_of self.now)).taken }
     {
         cells_taken(self.records)
     }
 
-    // The declaration of the global of that sort and name, which tells its cells.
-    pub fn global(&self, sort: GlobalSort, name: Name) -> Option<Declaration>
-        ensures { standing_of result ≡ global_standing (lines_of self.now) sort name }
+    /// The role of the global of that sort and name, which has its cells: `Role::GlobalSimple` or `Role::GlobalArray`. None where the name is of
+    /// no global of the sort.
+    pub fn global(&self, sort: GlobalSort, name: Name) -> Option<Role>
+        ensures { result ≡ global_role (lines_of self.now) sort name }
     {
-        let sought = match sort {
-            GlobalSort::Simple => Sought::Simple,
-            GlobalSort::Array => Sought::Array,
-        };
-        self.globals.find(sought, name)
+        let declaration = self.globals.find(sort.sought(), name)?;
+        Some(declaration.role)
     }
 }

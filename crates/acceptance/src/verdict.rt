@@ -11,9 +11,9 @@ use crate::resolve::resolve;
 use crate::sheet_lines::Sheet;
 use kinds::NumberKind;
 use lines::records::Record;
-use text::refusals::Refusal;
 use std::error::Error;
 use std::fmt;
+use text::refusals::Refusal;
 
 // Why a whole sheet is refused.
 #[derive(Clone, Copy, PartialEq, Eq, Debug)]

@@ -1,20 +1,19 @@
-use Rattle.std.proofs.Common.{◌≡◌, sym, ap, ◌∙◌, subst}
-use Rattle.script.specs.Apart.{found as find_own, globals_of}
+use Rattle.std.proofs.Common.{sym, ap, ◌∙◌, subst}
 use Rattle.acceptance.specs.Sheet.{lines_of}
 use Rattle.acceptance.specs.Scopes.{HasGlobals}
-use Rattle.acceptance.proofs.Innermost.{known}
-use Rattle.acceptance.specs.Scripts.{global_standing, standing_of}
-use Rattle.acceptance.proofs.Cells.{standing_found}
+use Rattle.acceptance.proofs.Cells.{role_in, role_of_global}
 use Rattle.acceptance.proofs.scripts.Script.global.Goals as goal
-use Rattle.acceptance.proofs.scripts.Script.global.Goals.{in-Simple, in-Array}
+
+pub returns-in_err-declaration : goal.returns-in_err-declaration
+returns-in_err-declaration g c =
+    let ls = lines_of c.args.self.now in
+    let listed : HasGlobals ls c.self.inside.globals = subst (λ rs. HasGlobals (lines_of rs) c.self.inside.globals) c.self.view_is c.self.invariant.1 in
+    let told = role_of_global c.args.sort c.args.name ls c.sought.result c.find.result c.sought.ensures (c.find.ensures ls listed) in
+    c.from_residual.ensures ∙ (sym (ap role_in c.in_err-declaration.was) ∙ told)
 
 pub returns : goal.returns
 returns g c =
     let ls = lines_of c.args.self.now in
-    let globals : HasGlobals ls c.self.inside.globals = subst (λ rs. HasGlobals (lines_of rs) c.self.inside.globals) c.self.view_is c.self.invariant.1 in
-    let found : standing_of c.find.result ≡ (globals_of ls).names (find_own (known c.match-sort.sought (globals_of ls).scope) c.args.name) =
-    ap standing_of (c.find.ensures ls globals) ∙ standing_found c.match-sort.sought c.args.name ls in
-    elim c.match-sort.branch [
-      | in-Simple w ↦ found ∙ (ap (λ k. (globals_of ls).names (find_own (known k (globals_of ls).scope) c.args.name)) w.sought-is ∙ ap (λ s. global_standing ls s c.args.name) (sym w.in-Simple.is))
-      | in-Array w ↦ found ∙ (ap (λ k. (globals_of ls).names (find_own (known k (globals_of ls).scope) c.args.name)) w.sought-is ∙ ap (λ s. global_standing ls s c.args.name) (sym w.in-Array.is))
-    ]
+    let listed : HasGlobals ls c.self.inside.globals = subst (λ rs. HasGlobals (lines_of rs) c.self.inside.globals) c.self.view_is c.self.invariant.1 in
+    let told = role_of_global c.args.sort c.args.name ls c.sought.result c.find.result c.sought.ensures (c.find.ensures ls listed) in
+    sym (ap role_in c.in_ok-declaration.was) ∙ told

@@ -6,7 +6,7 @@ use Rattle.acceptance.specs.Sheet.{lines_of}
 use Rattle.acceptance.specs.Scripts.{RightAnswer}
 use Rattle.acceptance.specs.Verdict.{Judged}
 use Rattle.acceptance.proofs.Reading.{all_read, front_lines, left, one_answer}
-use Rattle.acceptance.proofs.scripts.read_script.Goals as goal
+use Rattle.acceptance.proofs.scripts.read.read_records.Goals as goal
 
 pub returns-in-Ok-accept : goal.returns-in-Ok-accept
 returns-in-Ok-accept g c =
