@@ -82,6 +82,7 @@ impl<'s, 'r, K: NumberKind> Session<'s, 'r, K> {
         script: &'s Script<'r, K>,
         store: &S,
     ) -> Result<(), Refusal<SessionCause>>
+        ensures accepted { Accepted K.kind.least K.kind.most script.now }
         ensures answer { Opens K.kind (lines_of script.now) (S.Store.words store.now) result }
         ensures only { (s : Result (Unit {0}) (Refusal SessionCause)) → Opens K.kind (lines_of script.now) (S.Store.words store.now) s → s ≡ result }
         ensures session { self.new ≡ after_opening script.now (S.Store.words store.now) result }
@@ -89,10 +90,11 @@ impl<'s, 'r, K: NumberKind> Session<'s, 'r, K> {
     {
         self.opened = None;
         self.state = State::AtRest;
+        let records = script.records();
         if store.size() < script.cells() as usize {
             return Err(Refusal::without_line(SessionCause::StoreTooSmall));
         }
-        if let Some(line) = first_unlawful::<K, S>(script.records(), store) {
+        if let Some(line) = first_unlawful::<K, S>(records, store) {
             return Err(Refusal {
                 cause: SessionCause::UnlawfulGlobal,
                 line,
@@ -114,11 +116,11 @@ impl<'s, 'r, K: NumberKind> Session<'s, 'r, K> {
             return Err(Refusal::without_line(SessionCause::NotAtRest));
         };
         let no_such_global = Refusal::without_line(SessionCause::NoSuchGlobal);
-        let declared = opened
+        let role = opened
             .script
             .global(global.sort, global.name)
             .ok_or(no_such_global)?;
-        match declared.role {
+        match role {
             Role::GlobalSimple { cell } if global.index == 0 => Ok(cell as usize),
             Role::GlobalArray { first, length } if global.index < length => Ok(
                 first as usize + global.index as usize,

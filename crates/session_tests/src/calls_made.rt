@@ -5,16 +5,17 @@ use calls::asked::{Answer, Call};
 use calls::causes::SessionCause;
 use kinds::{NumberKind, Single, Whole};
 use lines::records::Record;
-use text::refusals::Refusal;
 use session::playing::{Reply, play};
 use session::sessions::Session;
 use std::test::Fail;
 use stores::{ByteImage, Store, WordTable};
+use text::refusals::Refusal;
 
 // Calls in order over the words 10, 20, 30, 40, and what they answer: the last two by whether the last post is accepted, as its word is lawful for
 // whole numbers and not for singles.
 fn table(posted: Reply, last: u32) -> [(Call, Reply); MANY] {
     [
+        (Call::Open, Ok(Answer::Opened)),
         (reading(simple(1, 0)), Ok(Answer::Word(10))),
         (reading(element(2, 2)), Ok(Answer::Word(40))),
         (post(element(2, 0), 5), Ok(Answer::Posted)),
@@ -36,7 +37,7 @@ fn table(posted: Reply, last: u32) -> [(Call, Reply); MANY] {
     ]
 }
 
-const MANY: usize = 14;
+const MANY: usize = 15;
 
 const WORDS: [u32; 4] = [10, 20, 30, 40];
 
@@ -46,12 +47,12 @@ fn plays<K: NumberKind, S: Store>(
     table: [(Call, Reply); MANY],
 ) -> Result<bool, Refusal<ScriptCause>> {
     let mut records = [Record::BLANK; LINES];
-    let count = read_script::<K>(SHEET.as_bytes(), &mut records)?;
-    let script: Script<K> = Script::new(&records[..count]);
+    let sheet = read_script::<K>(SHEET.as_bytes(), &mut records);
+    let script = sheet.script()?;
     let mut answers = [Ok(Answer::Posted); MANY];
     let calls = table.map(|(call, _)| call);
     let made = play(&script, store, &calls, &mut answers);
-    Ok(made == Ok(MANY) && answers == table.map(|(_, answer)| answer))
+    Ok(made == MANY && answers == table.map(|(_, answer)| answer))
 }
 
 // The calls over both stores, and what the first cell then holds.
@@ -81,15 +82,18 @@ fn over_another<K: NumberKind, S: Store>(
     store: &mut S,
 ) -> Result<[Reply; 5], Refusal<ScriptCause>> {
     let mut records = [Record::BLANK; LINES];
-    let count = read_script::<K>(SHEET.as_bytes(), &mut records)?;
-    let script: Script<K> = Script::new(&records[..count]);
+    let sheet = read_script::<K>(SHEET.as_bytes(), &mut records);
+    Ok(answers_over(&sheet.script()?, store))
+}
+
+fn answers_over<K: NumberKind, S: Store>(script: &Script<K>, store: &mut S) -> [Reply; 5] {
     let mut session = Session::unopened();
     let unopened = session.post(store, simple(9, 9), INFINITE);
     let mut words = WORDS;
-    let opened = session.open(&script, &WordTable::new(&mut words));
-    Ok([
+    let opened = session.open(script, &WordTable::new(&mut words));
+    [
         unopened.map(|_| Answer::Posted),
-        opened.map(|_| Answer::Posted),
+        opened.map(|_| Answer::Opened),
         session
             .post(store, element(2, 2), 5)
             .map(|_| Answer::Posted),
@@ -98,7 +102,7 @@ fn over_another<K: NumberKind, S: Store>(
             .post(store, element(2, 2), INFINITE)
             .map(|_| Answer::Posted),
         session.reading(store, simple(1, 0)).map(Answer::Word),
-    ])
+    ]
 }
 
 #[test]
@@ -106,9 +110,9 @@ fn calls_over_another_store(rt: HostRuntime) -> Result<(), Fail> {
     let not_at_rest = refused(SessionCause::NotAtRest);
     let fails = refused(SessionCause::StoreFails);
     let unlawful = refused(SessionCause::UnlawfulWord);
-    let done = Ok(Answer::Posted);
-    let whole = [not_at_rest, done, fails, fails, Ok(Answer::Word(INFINITE))];
-    let single = [not_at_rest, done, fails, unlawful, fails];
+    let opened = Ok(Answer::Opened);
+    let whole = [not_at_rest, opened, fails, fails, Ok(Answer::Word(INFINITE))];
+    let single = [not_at_rest, opened, fails, unlawful, fails];
     // of three cells, the first unlawful for singles
     let mut cells = [INFINITE, 20, 30];
     let mut table = WordTable::new(&mut cells);

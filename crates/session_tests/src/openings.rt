@@ -5,10 +5,10 @@ use acceptance::scripts::{Script, ScriptCause, read_script};
 use calls::asked::GlobalCell;
 use kinds::{NumberKind, Single, Whole};
 use lines::records::Record;
-use text::refusals::Refusal;
 use session::sessions::Session;
 use std::test::Fail;
 use stores::{ByteImage, Store, WordTable};
+use text::refusals::Refusal;
 
 // The words of a store, and what the opening over it is refused for with whole numbers and with singles.
 const OPENINGS: [(&[u32], Told, Told); 8] = [
@@ -40,14 +40,17 @@ fn told<C: Into<u8>>(answer: Result<(), Refusal<C>>) -> Told {
 // reading after it.
 fn open_again<K: NumberKind, S: Store>(store: &S) -> Result<(Told, Told), Refusal<ScriptCause>> {
     let mut records = [Record::BLANK; LINES];
-    let count = read_script::<K>(SHEET.as_bytes(), &mut records)?;
-    let script: Script<K> = Script::new(&records[..count]);
+    let sheet = read_script::<K>(SHEET.as_bytes(), &mut records);
+    Ok(told_again(&sheet.script()?, store))
+}
+
+fn told_again<K: NumberKind, S: Store>(script: &Script<K>, store: &S) -> (Told, Told) {
     let mut session = Session::unopened();
     let mut words = [7; 4];
-    let before = told(session.open(&script, &WordTable::new(&mut words)));
-    let answer = told(session.open(&script, store));
+    let before = told(session.open(script, &WordTable::new(&mut words)));
+    let answer = told(session.open(script, store));
     let reading = told(session.reading(store, FIRST).map(|_| ()));
-    Ok((before.or(answer), reading))
+    (before.or(answer), reading)
 }
 
 // What is due: where the opening is refused, there is no session to read from.

@@ -1,15 +1,15 @@
 // Runs of the sheet that doubles: from published words, grant by grant, and what calls answer in a run.
 use crate::samples::{DOUBLE, DOUBLE_LINES, post, reading, refused, simple};
-use acceptance::scripts::{Script, ScriptCause, read_script};
+use acceptance::scripts::{ScriptCause, read_script};
 use calls::asked::{Answer, Call};
 use calls::causes::SessionCause;
 use faults::{Ending, Fault};
 use kinds::Whole;
 use lines::records::Record;
-use text::refusals::Refusal;
 use session::playing::{Reply, play};
 use std::test::Fail;
 use stores::{ByteImage, Store, WordTable};
+use text::refusals::Refusal;
 
 fn closed(ending: Ending, count: u32) -> Reply {
     Ok(Answer::Closed { ending, count })
@@ -22,11 +22,11 @@ fn gets<const N: usize, S: Store>(
     wanted: &[Reply; N],
 ) -> Result<bool, Refusal<ScriptCause>> {
     let mut records = [Record::BLANK; DOUBLE_LINES];
-    let count = read_script::<Whole>(DOUBLE.as_bytes(), &mut records)?;
-    let script: Script<Whole> = Script::new(&records[..count]);
+    let sheet = read_script::<Whole>(DOUBLE.as_bytes(), &mut records);
+    let script = sheet.script()?;
     let mut replies = [Ok(Answer::Posted); N];
     let made = play(&script, store, calls, &mut replies);
-    Ok(made == Ok(N) && replies == *wanted)
+    Ok(made == N && replies == *wanted)
 }
 
 const MOST_CELLS: usize = 1024;
@@ -54,6 +54,7 @@ fn one_run(
     second: u32,
 ) -> Result<bool, Refusal<ScriptCause>> {
     let calls = [
+        Call::Open,
         post(simple(1, 0), first),
         post(simple(2, 0), 9),
         Call::Begin,
@@ -66,6 +67,7 @@ fn one_run(
         reading(simple(2, 0)),
     ];
     let wanted = [
+        Ok(Answer::Opened),
         Ok(Answer::Posted),
         Ok(Answer::Posted),
         Ok(Answer::Began { ticket: 1 }),
@@ -99,17 +101,19 @@ fn published_runs(rt: HostRuntime) -> Result<(), Fail> {
 #[test]
 fn grants_of_one(rt: HostRuntime) -> Result<(), Fail> {
     let grant = |count| Call::Grant { ticket: 1, count };
-    let mut calls = [grant(1); 20];
-    calls[0] = post(simple(1, 0), 3);
-    calls[1] = post(simple(2, 0), 9);
-    calls[2] = Call::Begin;
-    calls[19] = Call::Close { ticket: 1 };
-    let mut wanted = [Ok(Answer::Running); 20];
-    wanted[0] = Ok(Answer::Posted);
+    let mut calls = [grant(1); 21];
+    calls[0] = Call::Open;
+    calls[1] = post(simple(1, 0), 3);
+    calls[2] = post(simple(2, 0), 9);
+    calls[3] = Call::Begin;
+    calls[20] = Call::Close { ticket: 1 };
+    let mut wanted = [Ok(Answer::Running); 21];
+    wanted[0] = Ok(Answer::Opened);
     wanted[1] = Ok(Answer::Posted);
-    wanted[2] = Ok(Answer::Began { ticket: 1 });
-    wanted[18] = Ok(Answer::Over);
-    wanted[19] = closed(Ending::Finished, 16);
+    wanted[2] = Ok(Answer::Posted);
+    wanted[3] = Ok(Answer::Began { ticket: 1 });
+    wanted[19] = Ok(Answer::Over);
+    wanted[20] = closed(Ending::Finished, 16);
     assert_eq!(rt; gets_over_both(8, &calls, &wanted), Ok(true));
     Ok(())
 }
@@ -119,6 +123,7 @@ fn grants_of_one(rt: HostRuntime) -> Result<(), Fail> {
 fn one_too_few(rt: HostRuntime) -> Result<(), Fail> {
     let grant = |count| Call::Grant { ticket: 1, count };
     let calls = [
+        Call::Open,
         post(simple(1, 0), 3),
         Call::Begin,
         grant(15),
@@ -133,6 +138,7 @@ fn one_too_few(rt: HostRuntime) -> Result<(), Fail> {
         reading(simple(2, 0)),
     ];
     let wanted = [
+        Ok(Answer::Opened),
         Ok(Answer::Posted),
         Ok(Answer::Began { ticket: 1 }),
         Ok(Answer::Running),
@@ -147,10 +153,15 @@ fn one_too_few(rt: HostRuntime) -> Result<(), Fail> {
     Ok(())
 }
 
-// What calls are refused for around a run and in it; where two causes hold, the first of the table.
-fn refusals() -> [(Call, Reply); 17] {
+// What calls are refused for before an opening, around a run and in it; where two causes hold, the first of the table.
+fn refusals() -> [(Call, Reply); 22] {
     let grant = |ticket, count| Call::Grant { ticket, count };
     [
+        (reading(simple(1, 0)), refused(SessionCause::NotAtRest)),
+        (Call::Begin, refused(SessionCause::NotAtRest)),
+        (grant(1, 5), refused(SessionCause::NoSuchRun)),
+        (Call::Close { ticket: 1 }, refused(SessionCause::NoSuchRun)),
+        (Call::Open, Ok(Answer::Opened)),
         (grant(1, 5), refused(SessionCause::NoSuchRun)),
         (Call::Close { ticket: 1 }, refused(SessionCause::NoSuchRun)),
         (Call::Begin, Ok(Answer::Began { ticket: 1 })),
@@ -179,5 +190,66 @@ fn calls_around_a_run(rt: HostRuntime) -> Result<(), Fail> {
     let calls = refusals().map(|(call, _)| call);
     let wanted = refusals().map(|(_, reply)| reply);
     assert_eq!(rt; gets_over_both(8, &calls, &wanted), Ok(true));
+    Ok(())
+}
+
+// An opening over an open run ends it. The runs are counted from 1 again, and the ticket of the older run 1 is good for the new one, since a ticket counts by
+// its run's number alone.
+#[test]
+fn opened_in_a_run(rt: HostRuntime) -> Result<(), Fail> {
+    let grant = |ticket, count| Call::Grant { ticket, count };
+    let calls = [
+        Call::Open,
+        post(simple(1, 0), 1),
+        Call::Begin,
+        grant(1, 3),
+        Call::Open,
+        grant(1, 1),
+        Call::Close { ticket: 1 },
+        reading(simple(1, 0)),
+        Call::Begin,
+        grant(1, 100),
+        Call::Close { ticket: 1 },
+    ];
+    let wanted = [
+        Ok(Answer::Opened),
+        Ok(Answer::Posted),
+        Ok(Answer::Began { ticket: 1 }),
+        Ok(Answer::Running),
+        Ok(Answer::Opened),
+        refused(SessionCause::NoSuchRun),
+        refused(SessionCause::NoSuchRun),
+        Ok(Answer::Word(1)),
+        Ok(Answer::Began { ticket: 1 }),
+        Ok(Answer::Over),
+        closed(Ending::Finished, 8),
+    ];
+    assert_eq!(rt; gets_over_both(8, &calls, &wanted), Ok(true));
+    Ok(())
+}
+
+// Over a store without room for the globals the place stays empty.
+#[test]
+fn never_opened(rt: HostRuntime) -> Result<(), Fail> {
+    let calls = [
+        Call::Open,
+        reading(simple(1, 0)),
+        Call::Begin,
+        Call::Grant {
+            ticket: 1,
+            count: 1,
+        },
+        Call::Close { ticket: 1 },
+        Call::Open,
+    ];
+    let wanted = [
+        refused(SessionCause::StoreTooSmall),
+        refused(SessionCause::NotAtRest),
+        refused(SessionCause::NotAtRest),
+        refused(SessionCause::NoSuchRun),
+        refused(SessionCause::NoSuchRun),
+        refused(SessionCause::StoreTooSmall),
+    ];
+    assert_eq!(rt; gets_over_both(1, &calls, &wanted), Ok(true));
     Ok(())
 }

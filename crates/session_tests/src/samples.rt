@@ -3,8 +3,8 @@ use acceptance::globals::GlobalSort;
 use calls::asked::{Call, GlobalCell};
 use calls::causes::SessionCause;
 use lines::records::Name;
-use text::refusals::Refusal;
 use session::playing::Reply;
+use text::refusals::Refusal;
 
 // Simple variable 1 has cell 0, and array 2 the cells 1 to 3.
 pub const SHEET: &str = "1,g,1,0,0,0\n2,g,2,3,0,0\n3,x,1,0,0,0\n4,k,0,0,0,0\n5,s,3,4,0,0\n";
@@ -37,7 +37,7 @@ pub fn bytes_of(words: &[u32]) -> [u8; 4 * MOST_WORDS] {
 }
 
 pub fn refused(cause: SessionCause) -> Reply {
-    Err(Refusal { cause, line: 0 })
+    Err(Refusal::without_line(cause))
 }
 
 pub fn simple(name: Name, index: u16) -> GlobalCell {

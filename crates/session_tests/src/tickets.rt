@@ -5,11 +5,11 @@ use calls::causes::SessionCause;
 use faults::{Ending, Fault};
 use kinds::Whole;
 use lines::records::Record;
-use text::refusals::Refusal;
 use session::runs::{Closing, RunState};
 use session::sessions::Session;
 use std::test::Fail;
 use stores::{Store, WordTable};
+use text::refusals::Refusal;
 
 // What a run is granted, and how it is closed.
 fn one_run<S: Store>(
@@ -33,14 +33,22 @@ fn over_two(
     count: u32,
 ) -> Result<[Result<(RunState, Closing), Refusal<SessionCause>>; 2], Refusal<ScriptCause>> {
     let mut records = [Record::BLANK; DOUBLE_LINES];
-    let lines = read_script::<Whole>(DOUBLE.as_bytes(), &mut records)?;
-    let script: Script<Whole> = Script::new(&records[..lines]);
+    let sheet = read_script::<Whole>(DOUBLE.as_bytes(), &mut records);
+    Ok(runs_over(&sheet.script()?, first, second, count))
+}
+
+fn runs_over(
+    script: &Script<Whole>,
+    first: &mut [u32],
+    second: &mut [u32],
+    count: u32,
+) -> [Result<(RunState, Closing), Refusal<SessionCause>>; 2] {
     let mut session = Session::unopened();
     let mut own = WordTable::new(first);
-    let _opened = session.open(&script, &own);
+    let _opened = session.open(script, &own);
     let over_own = one_run(&mut session, &mut own, count);
     let over_other = one_run(&mut session, &mut WordTable::new(second), count);
-    Ok([over_own, over_other])
+    [over_own, over_other]
 }
 
 // The other store has no cell for the word of the first call: that is a fault of the run, on the line of the call.
