@@ -1,5 +1,5 @@
 // Which declaration each name belongs to, once a sheet is accepted.
-use acceptance::scripts::{Script, read_script};
+use acceptance::scripts::read_script;
 use kinds::Whole;
 use lines::records::{Declaration, Line, LineNumber, Record, Role};
 use std::test::Fail;
@@ -95,10 +95,10 @@ const SCRIPTS: [(&str, [Telling; 4]); 6] = [
 fn names_belong_to_the_innermost_declaration(rt: HostRuntime) -> Result<(), Fail> {
     for (text, tellings) in SCRIPTS {
         let mut records = [Record::BLANK; 20];
-        let Ok(count) = read_script::<Whole>(text.as_bytes(), &mut records) else {
+        let reading = read_script::<Whole>(text.as_bytes(), &mut records);
+        let Ok(script) = reading.script() else {
             return Err(Fail::new("the sheet is refused"));
         };
-        let script = Script::<Whole>::new(&records[..count]);
         for (number, line, role) in tellings {
             let told = script
                 .records()
@@ -118,7 +118,10 @@ fn a_refused_sheet_tells_no_declaration(rt: HostRuntime) -> Result<(), Fail> {
         declaration: None,
     };
     let mut records = [kept; 5];
-    assert!(rt; read_script::<Whole>(text.as_bytes(), &mut records).is_err());
+    let reading = read_script::<Whole>(text.as_bytes(), &mut records);
+    assert!(rt; reading.script().is_err());
+    assert_eq!(rt; reading.records()[4], kept);
+    // the reading is done with, and the records are the caller's again
     assert_eq!(rt; records[1].line, Line::Simple { name: 1 });
     assert_eq!(rt; records[1].declaration, None);
     assert_eq!(rt; records[4], kept);

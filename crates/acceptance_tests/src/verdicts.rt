@@ -3,13 +3,14 @@ use crate::samples::{SHEETS, Told};
 use acceptance::scripts::read_script;
 use kinds::{NumberKind, Single, Whole};
 use lines::records::Record;
-use text::refusals::Refusal;
 use std::alloc::{AllocError, Global};
 use std::test::Fail;
+use text::refusals::Refusal;
 
 // What the sheet is refused for, if it is.
 fn verdict<K: NumberKind>(text: &str, records: &mut [Record]) -> Told {
-    let Err(refusal) = read_script::<K>(text.as_bytes(), records) else {
+    let reading = read_script::<K>(text.as_bytes(), records);
+    let Err(refusal) = reading.script() else {
         return None;
     };
     let Refusal { cause, line } = refusal.numbered();

@@ -36,7 +36,8 @@ fn tell_acceptance<K: NumberKind>(
     records: &mut [Record],
     kind: &str,
 ) -> anyhow::Result<()> {
-    let Err(refusal) = read_script::<K>(text, records) else {
+    let reading = read_script::<K>(text, records);
+    let Err(refusal) = reading.script() else {
         println!(rt; "accepted for {kind}")?;
         return Ok(());
     };

@@ -9,6 +9,7 @@ use Rattle.standing.specs.Records.{line_in}
 use Rattle.standing.specs.Standing.{Says}
 use Rattle.acceptance.specs.Sheet.{lines_of}
 use Rattle.acceptance.specs.Scripts.{Accepted}
+use Rattle.acceptance.proofs.Stands.{accepted_stands}
 use Rattle.engine.specs.Working.{OfKind}
 use Rattle.engine.specs.declared.frame.Binding.TheVariants.{Script}
 use Rattle.engine.specs.declared.frame.Frame.{Frame}
@@ -63,7 +64,7 @@ starts low high rs a fs u l h e q =
     (record {
       level = refl;
       used = q;
-      text = subst (StandsStatement G rs (statement_apart (globals_of ls).scope s.text)) n a.stands;
+      text = subst (StandsStatement G rs (statement_apart (globals_of ls).scope s.text)) n (accepted_stands low high rs a);
       env = link_in G rs fs' 0 0 (first_frame u l) outside t (refl, refl);
       fine = fine_by_globals ls s.text s.scoped (lines_once low high ls s)
           (each_map (λ x. (past_globals ls ≤ x) × (x < suc (length ls))) (λ x. past_globals ls ≤ x) (λ x w. w.0) (declaring_lines s.text) (lines_within low high ls s (suc (length ls)) (omega arith)));

@@ -1,5 +1,5 @@
 // Runs of small scripts.
-use acceptance::scripts::{Script, read_script};
+use acceptance::scripts::read_script;
 use engine::{Engine, Progress, State};
 use faults::Fault;
 use kinds::{NumberKind, Single, Whole};
@@ -42,13 +42,13 @@ fn play<K: NumberKind>(
     allowances: [u32; 2],
 ) -> Option<(Progress, Progress)> {
     let mut records = [Record::BLANK; 20];
-    let Ok(count) = read_script::<K>(sheet.as_bytes(), &mut records) else {
+    let reading = read_script::<K>(sheet.as_bytes(), &mut records);
+    let Ok(script) = reading.script() else {
         return None;
     };
-    let script = Script::<K>::new(&records[..count]);
     let mut store = WordTable::new(cells);
     let mut engine = Engine::at_rest();
-    engine.start(count as LineNumber, used);
+    engine.start(script.records().len() as LineNumber, used);
     let [first, second] = allowances;
     let first = engine.run(&script, &mut store, size, first);
     let second = engine.run(&script, &mut store, size, second);
