@@ -1,8 +1,7 @@
 // Lists of calls: one after the other is asked of a caller's place, over one store.
 ghost use Rattle.std.specs.Prelude.{◌≡◌, min, length, take, drop};
 ghost use Rattle.acceptance.specs.Scripts.{Accepted};
-ghost use Rattle.acceptance.specs.Sheet.{lines_of};
-ghost use Rattle.calls.specs.Laws.{BegunAll, OneReply, TwoSessions, global_store};
+ghost use Rattle.calls.specs.Laws.{BegunAll, OneReply};
 ghost use Rattle.faults.specs.Known.{ClosingsKnown};
 ghost use Rattle.session.specs.Promise.{Keeps, Talked, to_begin, to_close, to_grant, to_open, to_post, to_reading};
 
@@ -105,36 +104,4 @@ pub fn play<K: NumberKind, S: Store>(
         replies[i] = session.make(script, store, *call);
     }
     made
-}
-
-/// Makes the same calls in two places of their own, over two stores of whatever makes, as many as there are places for the replies of both, and tells how
-/// many that were. So two units can be held to each other.
-///
-/// Each place and store is as after `play`. Over stores of equal size with equal global stores the replies are equal; and by the law below it, replies that are equal
-/// to an opening and to whatever readings after it tell that the global stores were.
-pub fn play_both<K: NumberKind, S: Store, T: Store>(
-    script: &Script<K>,
-    first: &mut S,
-    second: &mut T,
-    calls: &[Call],
-    first_replies: &mut [Reply],
-    second_replies: &mut [Reply],
-) -> usize
-    ensures accepted { Accepted K.kind.least K.kind.most script.now }
-    ensures count { result ≡ min (length calls.now) (min (length first_replies.old) (length second_replies.old)) }
-    ensures first_promise { (a : Accepted K.kind.least K.kind.most script.now) → Talked K.kind script.now a (S.Store.words first.old) (take result calls.now) (take result first_replies.new) (S.Store.words first.new) }
-    ensures second_promise { (a : Accepted K.kind.least K.kind.most script.now) → Talked K.kind script.now a (T.Store.words second.old) (take result calls.now) (take result second_replies.new) (T.Store.words second.new) }
-
-    ensures alike { length (S.Store.words first.old) ≡ length (T.Store.words second.old) → global_store (lines_of script.now) (S.Store.words first.old) ≡ global_store (lines_of script.now) (T.Store.words second.old) → take result first_replies.new ≡ take result second_replies.new }
-    ensures two_sessions { TwoSessions }
-
-    ensures first_rest { drop result first_replies.new ≡ drop result first_replies.old }
-    ensures second_rest { drop result second_replies.new ≡ drop result second_replies.old }
-    ensures first_lent { S.Store.lent first.new ≡ S.Store.lent first.old }
-    ensures second_lent { T.Store.lent second.new ≡ T.Store.lent second.old }
-{
-    let most = first_replies.len().min(second_replies.len());
-    let calls = &calls[..calls.len().min(most)];
-    play(script, first, calls, first_replies);
-    play(script, second, calls, second_replies)
 }

@@ -111,7 +111,13 @@ fn calls_over_another_store(rt: HostRuntime) -> Result<(), Fail> {
     let fails = refused(SessionCause::StoreFails);
     let unlawful = refused(SessionCause::UnlawfulWord);
     let opened = Ok(Answer::Opened);
-    let whole = [not_at_rest, opened, fails, fails, Ok(Answer::Word(INFINITE))];
+    let whole = [
+        not_at_rest,
+        opened,
+        fails,
+        fails,
+        Ok(Answer::Word(INFINITE)),
+    ];
     let single = [not_at_rest, opened, fails, unlawful, fails];
     // of three cells, the first unlawful for singles
     let mut cells = [INFINITE, 20, 30];

@@ -26,13 +26,13 @@ loop-i-preserved g c =
     let σ = g.S.Store.words c.args.store.now in
     let qs = c.args.calls.now in
     let i = c.loop-i.i in
-    let long = length-take c.min-count.result qs in
-    let most = c.min-count.ensures in
-    let h : i < c.min-count.result = omega (arith, long, c.loop-i-test.true) in
+    let long = length-take c.min-made.result qs in
+    let most = c.min-made.ensures in
+    let h : i < c.min-made.result = omega (arith, long, c.loop-i-test.true) in
     let there : i < length qs = omega (arith, h, most) in
     let place : i < length c.loop-i.replies = let e = c.loop-i.auto.replies in omega (arith, h, most, e) in
     let q = get_or qs i blank in
-    let at : get_or (take c.min-count.result qs) i blank ≡ q = get_or-take c.min-count.result qs i blank h in
+    let at : get_or (take c.min-made.result qs) i blank ≡ q = get_or-take c.min-made.result qs i blank h in
     let promise = subst (λ x. Keeps K rs x c.loop-i.session (g.S.Store.words c.loop-i.store) c.make.result c.make.new.self (g.S.Store.words c.make.new.store)) at c.make.ensures.promise in
     let asked : take (i + 1) qs ≡ take i qs ++ q ∷ [] = take_more qs i blank there in
     let told : take (i + 1) (set c.loop-i.replies i c.make.result) ≡ take i c.loop-i.replies ++ c.make.result ∷ [] = take_more_set c.loop-i.replies i c.make.result place in (
@@ -48,15 +48,15 @@ returns-clause-promise g c =
     let K = g.K.NumberKind.kind in
     let rs = c.args.script.now in
     let σ = g.S.Store.words c.args.store.now in
-    let long = length-take c.min-count.result c.args.calls.now in
-    let most = c.min-count.ensures in
-    let all : c.loop-i.i ≡ c.min-count.result = omega (arith, long, most, c.loop-i-test.false, c.loop-i.auto.i-end) in
+    let long = length-take c.min-made.result c.args.calls.now in
+    let most = c.min-made.ensures in
+    let all : c.loop-i.i ≡ c.min-made.result = omega (arith, long, most, c.loop-i-test.false, c.loop-i.auto.i-end) in
     λ a. subst (λ n. Talked K rs a σ (take n c.args.calls.now) (take n c.loop-i.replies) (g.S.Store.words c.loop-i.store)) all
     (talked K rs a σ (take c.loop-i.i c.args.calls.now) (take c.loop-i.i c.loop-i.replies) c.loop-i.session (g.S.Store.words c.loop-i.store) (c.loop-i.invariant.0 a))
 
 pub returns-clause-rest : goal.returns-clause-rest
 returns-clause-rest g c =
-    let long = length-take c.min-count.result c.args.calls.now in
-    let most = c.min-count.ensures in
-    let all : c.loop-i.i ≡ c.min-count.result = omega (arith, long, most, c.loop-i-test.false, c.loop-i.auto.i-end) in
+    let long = length-take c.min-made.result c.args.calls.now in
+    let most = c.min-made.ensures in
+    let all : c.loop-i.i ≡ c.min-made.result = omega (arith, long, most, c.loop-i-test.false, c.loop-i.auto.i-end) in
     subst (λ n. drop n c.loop-i.replies ≡ drop n c.args.replies.now) all c.loop-i.invariant.1

@@ -33,7 +33,7 @@ returns-then-size-cells-clause-promise g c held =
 pub returns-in-Some-clause-answer : goal.returns-in-Some-clause-answer
 returns-in-Some-clause-answer g c =
     unlawful (omega (arith, c.if-size-cells.false, c.cells.ensures, c.size.ensures.size))
-    (subst (λ rs. FirstUnlawful g.K.NumberKind.kind (lines_of rs) (g.S.Store.words c.args.store.now) c.in-Some.line) c.records.ensures.is c.in-Some.ensures)
+    (subst (λ rs. FirstUnlawful g.K.NumberKind.kind (lines_of rs) (g.S.Store.words c.args.store.now) c.in-Some.line) c.records-records.ensures.is c.in-Some.ensures)
 
 pub returns-in-Some-clause-only : goal.returns-in-Some-clause-only
 returns-in-Some-clause-only g c s h =
@@ -51,7 +51,7 @@ returns-in-Some-clause-promise g c held =
 pub returns-clause-answer : goal.returns-clause-answer
 returns-clause-answer g c =
     opens (omega (arith, c.if-size-cells.false, c.cells.ensures, c.size.ensures.size))
-    (subst (λ rs. (n : ℕ) → ¬ (Unlawful g.K.NumberKind.kind (lines_of rs) (g.S.Store.words c.args.store.now) n)) c.records.ensures.is c.in_default.ensures)
+    (subst (λ rs. (n : ℕ) → ¬ (Unlawful g.K.NumberKind.kind (lines_of rs) (g.S.Store.words c.args.store.now) n)) c.records-records.ensures.is c.in_default.ensures)
 
 pub returns-clause-only : goal.returns-clause-only
 returns-clause-only g c s h =
