@@ -46,7 +46,7 @@ module _ (K : Arithmetic) (ls : List Line) (t : Statement) (size : ℕ) where
     told = sym (reverse-reverse (map reply_of (made first (reverse qs))));
   }
 
-  replied_so : (first : List ℕ) (qs : List Call) (rs : List Reply) → Answered K ls t size first qs rs → rs ≡ replies first qs
+  pub replied_so : (first : List ℕ) (qs : List Call) (rs : List Reply) → Answered K ls t size first qs rs → rs ≡ replies first qs
   replied_so first qs rs a =
       same_lists rs (replies first qs)
       (sym a.told
