@@ -218,14 +218,12 @@ module _ (K : Arithmetic) (ls : List Line) (t : Statement) (size : ℕ) where
   same_second : (r : Reply) (v w : ℕ) → ◌≡◌ {A = List Reply} (r ∷ Ok (Word v) ∷ []) (r ∷ Ok (Word w) ∷ []) → v ≡ w
   same_second r v w e = cc
 
-  module _ (σ τ : List ℕ) (o : Opens K ls σ (Ok tt)) (p : Opens K ls τ (Ok tt))
+  module _ (low high : ℤ) (s : IsScript low high ls) (σ τ : List ℕ) (o : Opens K ls σ (Ok tt)) (p : Opens K ls τ (Ok tt))
       (same : (calls : List Call) → All IsReading calls → (a b : List Reply) → Answered K ls t size σ (Open ∷ calls) a → Answered K ls t size τ (Open ∷ calls) b → a ≡ b) where
     word_told : (g : GlobalCell) (c : ℕ) → cell_of ls g ≡ Some c → slice_index σ c ≡ slice_index τ c
     word_told g c e =
         same_second (Ok Opened) (slice_index σ c) (slice_index τ c) (same (Reading g ∷ []) (one_reading g) _ _ (reads σ o g c e) (reads τ p g c e))
 
-  module _ (low high : ℤ) (s : IsScript low high ls) (σ τ : List ℕ) (o : Opens K ls σ (Ok tt)) (p : Opens K ls τ (Ok tt))
-      (same : (calls : List Call) → All IsReading calls → (a b : List Reply) → Answered K ls t size σ (Open ∷ calls) a → Answered K ls t size τ (Open ∷ calls) b → a ≡ b) where
     abbrev taken : ℕ
     taken = (globals_of ls).taken
 
@@ -239,7 +237,7 @@ module _ (K : Arithmetic) (ls : List Line) (t : Statement) (size : ℕ) where
         ext_get_or 0 (global_store ls σ) (global_store ls τ) (m ∙ sym n) (λ c h.
         let k : c < taken = omega (arith, h, m) in
         let g = named low high ls s c k in
-        in_front σ c k ∙ word_told σ τ o p same g.0 c g.1 ∙ sym (in_front τ c k))
+        in_front σ c k ∙ word_told g.0 c g.1 ∙ sym (in_front τ c k))
 
 pub two_sessions : TwoSessions
 two_sessions K low high ls few s σ τ long = record {

@@ -23,7 +23,7 @@ module _ (K : Arithmetic) (ls : List Line) (t : Statement) (size : ℕ) where
   made_talks first [] = tt
   made_talks first (q ∷ qs) = (made_talks first qs, right K ls t size (ledger ls first (made first qs)) q)
 
-  made_called : (first : List ℕ) (qs : List Call) → map call_of (made first qs) ≡ qs
+  pub made_called : (first : List ℕ) (qs : List Call) → map call_of (made first qs) ≡ qs
   made_called first [] = refl
   made_called first (q ∷ qs) = λ j. called K ls t size (ledger ls first (made first qs)) q j ∷ made_called first qs j
 
