@@ -7,7 +7,7 @@ use Rattle.text.specs.declared.refusals.Refusal.{Refusal}
 use Rattle.acceptance.specs.declared.scripts.ScriptCause.{ScriptCause}
 use Rattle.acceptance.specs.declared.scripts.Reading.{Reading}
 
--- the records of as many lines, or the refusal
+-- as many of the records from the first on as the script has lines, or the refusal
 abbrev pub script_among : List Record → Result ℕ (Refusal ScriptCause) → Result (List Record) (Refusal ScriptCause)
 script_among rs (Ok count) = Ok (take count rs)
 script_among rs (Err r) = Err r
@@ -21,9 +21,11 @@ module _ {K : Type 0} {g : Ghosts K} where
   abbrev pub records_of : Reading K g → List Record
   records_of r = r.lent.now
 
-  -- the name of the loan that they came by
+  -- The name of the loan that they came by: references with one name are one loan. So where it is the name of the reference that was passed, what
+  -- the reading leaves in the records is what that reference's memory holds once the reading is gone.
   abbrev pub loan_of : Reading K g → GName
   loan_of r = r.lent.ghost_name
 
+  -- the script that was read, or the refusal
   abbrev pub script_of : Reading K g → Result (List Record) (Refusal ScriptCause)
   script_of r = script_among (records_of r) (answer_of r)

@@ -23,7 +23,7 @@ use text::refusals::Refusal;
 pub fn read_script<'r, K: NumberKind>(text: &[u8], records: &'r mut [Record]) -> Reading<'r, K>
     ensures same_memory { loan_of result ≡ records.entry.ghost_name }
     ensures right { RightAnswer K.kind.least K.kind.most (outcome (length records.old) text.now) (answer_of result) }
-    ensures only { (s : Result ℕ (Refusal ScriptCause)) → RightAnswer K.kind.least K.kind.most (outcome (length records.old) text.now) s → s ≡ (answer_of result) }
+    ensures only { (s : Result ℕ (Refusal ScriptCause)) → RightAnswer K.kind.least K.kind.most (outcome (length records.old) text.now) s → s ≡ answer_of result }
     ensures bound { IfOk (answer_of result) (λ count. count ≤ length records.old) }
     ensures left { LeftAs K.kind.least K.kind.most (outcome (length records.old) text.now) records.old (answer_of result) (records_of result) }
 {
