@@ -1,0 +1,3 @@
+pub mod OneReport
+pub mod Bounds
+pub mod Once
