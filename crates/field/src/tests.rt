@@ -105,6 +105,6 @@ fn a_card_that_is_too_long(rt: HostRuntime) -> Result<(), Fail> {
     let mut reader = io::repeat(b'\n');
     let mut written = Vec::new(rt.alloc());
     run_card(rt.alloc(), &mut reader, &mut written)?;
-    assert_eq!(rt; written.as_slice(), b"r,1,0,0\n");
+    assert_eq!(rt; written.as_slice(), b"r,1,0,0\n".as_slice());
     Ok(())
 }
