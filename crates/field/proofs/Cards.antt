@@ -1,0 +1,53 @@
+-- A card that is cut after 65,537 bytes is read as the whole card is.
+use Rattle.std.proofs.Common.{◌≡◌, ℕ, ◌<◌, ◌&&◌, Bool, true, false, cond, List, [], ◌++◌, length, nat_le, take, replicate, Some, None, Option, Ok, Err, Result, sym, refl, ap, ◌∙◌, subst, inl, inr, arith}
+use Rattle.std.proofs.lemmas.Bool.{cases_lt, lt-leb}
+use Rattle.std.proofs.lemmas.List.{length-take-le, take_all}
+use Rattle.std.specs.Option.{IfSome, option_map}
+use Rattle.std.specs.Result.{OnOk}
+use Rattle.std.specs.Io.KnownBytes.{Appends}
+use Rattle.sheet.specs.Reading.{from_line, outcome, refused}
+use Rattle.lines.specs.declared.refusals.Cause.TheVariants.{TextSize}
+use Rattle.text.specs.Lines.{rows}
+use Rattle.field.specs.Card.{CardTold}
+use Rattle.field.specs.Report.{Comes, Writes}
+
+and_false : (a b : Bool) → b ≡ false → (a && b) ≡ false
+and_false true b e = e
+and_false false b e = refl
+
+too_long : (room : ℕ) (t : List ℕ) → 65536 < length t → outcome room t ≡ refused TextSize 0
+too_long room t h =
+    ap (λ b. cond b (from_line room 1 (rows t)) (refused TextSize 0)) (and_false (nat_le 1 (length t)) (nat_le (length t) 65536) (lt-leb (length t) 65536 h))
+
+same_reading : (room : ℕ) (t : List ℕ) → outcome room (take 65537 t) ≡ outcome room t
+same_reading room t = elim (cases_lt 65537 (length t)) [
+  | inl w ↦
+      let e : length (take 65537 t) ≡ 65537 = length-take-le 65537 t (omega (arith, w)) in
+      too_long room (take 65537 t) (omega (arith, e)) ∙ sym (too_long room t (omega (arith, w)))
+  | inr w ↦ ap (outcome room) (take_all 65537 t (omega (arith, w)))
+]
+
+pub whole_card : (room : ℕ) (t words written σ : List ℕ) → Writes room (take 65537 t) words written σ → Writes room t words written σ
+whole_card room t words written σ w = subst (λ o. Comes o words written σ) (same_reading room t) w
+
+-- what is left of a reader, and what was read of it
+pub taken : (known : Option (List ℕ)) (n : ℕ) (was now : List ℕ) → was ≡ [] → IfSome (option_map (take n) known) (λ xs. now ≡ was ++ xs) → IfSome known (λ all. now ≡ take n all)
+taken None n was now e h = h
+taken (Some all) n was now e h = h ∙ ap (λ xs. xs ++ take n all) e
+
+-- ## From the reader to the writer
+
+module _ (room : ℕ) (text items words report σ bytes : List ℕ) (known before after : Option (List ℕ)) (r : room ≡ 2048) (z : words ≡ replicate 1024 0)
+    (t : text ≡ items) (b : bytes ≡ report) (w : Writes room text words report σ) where
+  told_known : (k : Option (List ℕ)) → IfSome k (λ all. items ≡ take 65537 all) → Appends before after bytes → IfSome k (λ card. CardTold card before after)
+  told_known None h a = h
+  told_known (Some all) h a =
+      let v : Writes 2048 (take 65537 all) (replicate 1024 0) report σ =
+      subst (λ m. Writes m (take 65537 all) (replicate 1024 0) report σ) r
+      (subst (λ ws. Writes room (take 65537 all) ws report σ) z (subst (λ x. Writes room x words report σ) (t ∙ h) w)) in
+      (report, σ, whole_card 2048 all (replicate 1024 0) report σ v, subst (Appends before after) b a)
+
+  pub told : {E : Type 0} (x : Result (Unit {0}) E) → IfSome known (λ all. items ≡ take 65537 all) → OnOk x (Appends before after bytes)
+      → OnOk x (IfSome known (λ card. CardTold card before after))
+  told (Ok u) h a = told_known known h a
+  told (Err e) h a = a

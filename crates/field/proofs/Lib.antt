@@ -1,0 +1,4 @@
+pub mod OneReport
+pub mod Bounds
+pub mod Once
+pub mod Cards
