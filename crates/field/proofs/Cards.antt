@@ -1,8 +1,8 @@
 -- A card that is cut after 65,537 bytes is read as the whole card is.
-use Rattle.std.proofs.Common.{◌≡◌, ℕ, ◌<◌, ◌&&◌, Bool, true, false, cond, List, [], ◌++◌, length, nat_le, take, replicate, Some, None, Option, Ok, Err, Result, sym, refl, ap, ◌∙◌, subst, inl, inr, arith}
+use Rattle.std.proofs.Common.{◌≡◌, ℕ, ◌<◌, ◌&&◌, Bool, true, false, cond, List, length, nat_le, take, replicate, Some, None, Option, Ok, Err, Result, sym, refl, ap, ◌∙◌, subst, inl, inr, arith}
 use Rattle.std.proofs.lemmas.Bool.{cases_lt, lt-leb}
 use Rattle.std.proofs.lemmas.List.{length-take-le, take_all}
-use Rattle.std.specs.Option.{IfSome, option_map}
+use Rattle.std.specs.Option.{IfSome}
 use Rattle.std.specs.Result.{OnOk}
 use Rattle.std.specs.Io.KnownBytes.{Appends}
 use Rattle.sheet.specs.Reading.{from_line, outcome, refused}
@@ -29,11 +29,6 @@ same_reading room t = elim (cases_lt 65537 (length t)) [
 
 pub whole_card : (room : ℕ) (t words written σ : List ℕ) → Writes room (take 65537 t) words written σ → Writes room t words written σ
 whole_card room t words written σ w = subst (λ o. Comes o words written σ) (same_reading room t) w
-
--- what is left of a reader, and what was read of it
-pub taken : (known : Option (List ℕ)) (n : ℕ) (was now : List ℕ) → was ≡ [] → IfSome (option_map (take n) known) (λ xs. now ≡ was ++ xs) → IfSome known (λ all. now ≡ take n all)
-taken None n was now e h = h
-taken (Some all) n was now e h = h ∙ ap (λ xs. xs ++ take n all) e
 
 -- ## From the reader to the writer
 

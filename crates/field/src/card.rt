@@ -1,10 +1,11 @@
 // A card, from a reader to its report on a writer.
-ghost use Rattle.std.specs.Prelude.{◌≡◌, take, IfOk, IfSome, OnOk};
+ghost use Rattle.std.specs.Prelude.{IfSome, OnOk};
 ghost use Rattle.field.specs.Card.{CardTold};
 
 use crate::run::field_run;
+use card_input::read_card;
 use lines::records::Record;
-use sheet::reader::{MOST_BYTES, MOST_LINES};
+use sheet::reader::MOST_LINES;
 use std::alloc::Global;
 use std::io;
 use std::io::{Read, Write};
@@ -12,15 +13,6 @@ use stores::WordTable;
 
 // How many cells the store has.
 const CELLS: usize = 1024;
-
-// The card's bytes: one past the most that a sheet may have is enough to refuse it.
-fn read_card<R: Read>(heap: Global, reader: &mut R) -> io::Result<Vec<u8>>
-    ensures { IfOk result (λ card. IfSome (R.remaining reader.old) (λ all. card.items ≡ take 65537 all)) }
-{
-    let mut card = Vec::new(heap);
-    reader.take(MOST_BYTES as u64 + 1).read_to_end(&mut card)?;
-    Ok(card)
-}
 
 /// Reads a card to its end, or to its 65,537th byte, which is enough to refuse it; makes one run of it over 1,024 zero words; and writes the
 /// report (`field_run`), and nothing else.

@@ -9,4 +9,4 @@ returns g c =
     told (length c.deref_mut.result.now) c.deref.result.now c.in_ok-card.card.items (take 65536 c.new-store.result.cells.now) c.in_ok-report.report.items
     (take 65536 c.field_run.new.store.cells.now) c.deref-2.result.now (g.R.Read.remaining c.args.reader.now) (g.W.Write.contents c.args.writer.now)
     (g.W.Write.contents c.write_all.new.self) r z c.deref.ensures.value c.deref-2.ensures.value c.in_ok-report.ensures.writes
-    c.write_all.result c.in_ok-card.ensures c.write_all.ensures.bytes
+    c.write_all.result c.in_ok-card.ensures.bytes c.write_all.ensures.bytes
