@@ -2,3 +2,4 @@ pub mod Answers
 pub mod Cases
 pub mod Names
 pub mod Counts
+pub mod Lines
