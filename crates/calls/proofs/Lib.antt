@@ -6,3 +6,5 @@ pub mod Running
 pub mod Model
 pub mod Kept
 pub mod Counting
+pub mod Stored
+pub mod Alike

@@ -178,7 +178,7 @@ index_has (cell d) (suc i) c e = absurd (none_some c e)
 index_has (cells b n) i c e = index_in b n i c (nat_lt i n) refl e
 index_has (code x y s) i c e = absurd (none_some c e)
 
-has_below : (u : ℕ) (s : Standing) (c : ℕ) → Sits u s → Has s c → c < u
+pub has_below : (u : ℕ) (s : Standing) (c : ℕ) → Sits u s → Has s c → c < u
 has_below u nothing c q h = absurd h
 has_below u (cell d) c q h = omega (arith, q, h)
 has_below u (cells b n) c q h = omega (arith, q, h.1)

@@ -23,7 +23,7 @@ module _ (K : Arithmetic) (ls : List Line) (t : Statement) (size : ℕ) where
   made_talks first [] = tt
   made_talks first (q ∷ qs) = (made_talks first qs, right K ls t size (ledger ls first (made first qs)) q)
 
-  made_called : (first : List ℕ) (qs : List Call) → map call_of (made first qs) ≡ qs
+  pub made_called : (first : List ℕ) (qs : List Call) → map call_of (made first qs) ≡ qs
   made_called first [] = refl
   made_called first (q ∷ qs) = λ j. called K ls t size (ledger ls first (made first qs)) q j ∷ made_called first qs j
 
@@ -46,7 +46,7 @@ module _ (K : Arithmetic) (ls : List Line) (t : Statement) (size : ℕ) where
     told = sym (reverse-reverse (map reply_of (made first (reverse qs))));
   }
 
-  replied_so : (first : List ℕ) (qs : List Call) (rs : List Reply) → Answered K ls t size first qs rs → rs ≡ replies first qs
+  pub replied_so : (first : List ℕ) (qs : List Call) (rs : List Reply) → Answered K ls t size first qs rs → rs ≡ replies first qs
   replied_so first qs rs a =
       same_lists rs (replies first qs)
       (sym a.told

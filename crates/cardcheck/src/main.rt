@@ -66,7 +66,7 @@ fn tell_line(rt: &impl Print, text: &[u8], number: usize) -> anyhow::Result<()> 
 }
 
 fn main(rt: HostRuntime) -> anyhow::Result<()> {
-    let bytes = read_card(&rt)?;
+    let bytes = read_card(rt.alloc(), &mut rt.reader())?;
     let text = bytes.as_slice();
     let mut records = vec![in rt.alloc(); Record::BLANK; MOST_LINES]?;
     match read_lines(text, &mut records) {

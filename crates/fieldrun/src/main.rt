@@ -13,7 +13,7 @@ use stores::WordTable;
 const CELLS: usize = 1024;
 
 fn main(rt: HostRuntime) -> anyhow::Result<()> {
-    let card = read_card(&rt)?;
+    let card = read_card(rt.alloc(), &mut rt.reader())?;
     let mut records = vec![in rt.alloc(); Record::BLANK; MOST_LINES]?;
     let mut cells = [0; CELLS];
     let mut store = WordTable::new(&mut cells);

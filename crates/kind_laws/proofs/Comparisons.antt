@@ -4,7 +4,7 @@ use mathlib.Core.Bool.{beq}
 use native.Mathlib.Nat.{eq_of_mul-eq-mul_right}
 use lib.IntN.{negsuc-*ℤ-pos}
 use lib.Signed.{lt_z}
-use lib.Ieee.{Float, nan, inf, fin, binary32, eq, lt, below, level, up, down, round, of_int, to_unsigned}
+use lib.Ieee.{Float, nan, inf, fin, binary32, eq, lt, below, level, up, down, round, of_int, to_bits, to_unsigned}
 use lib.Ieee.Bits.{of_bits-to_bits}
 use lib.Ieee.Exact.{HasValue}
 use lib.Ieee.Back.{round_whole}
@@ -18,7 +18,7 @@ use Rattle.kinds.specs.Single.{lawful, number, constant, index}
 use Rattle.kinds.specs.Singles.{lawful_finite, constant_lawful}
 use Rattle.kinds.proofs.Indexes.{whole_is, cut_at}
 use Rattle.kind_laws.specs.Exact.{negative, magnitude, signed, units, one}
-use Rattle.kind_laws.specs.Comparing.{Equality, Constant, Index}
+use Rattle.kind_laws.specs.Comparing.{Equality, Constant, Index, ZeroIsConstant}
 use Rattle.kind_laws.proofs.Words.{word_value, same_sign}
 use Rattle.kind_laws.proofs.Ties.{same_units}
 use Rattle.kind_laws.proofs.Operations.{left, right, under, Op, by_parts}
@@ -139,6 +139,10 @@ constants z = go (holds Single.single z) refl
     go : (b : Bool) → holds Single.single z ≡ b → Constant z (cond b (Some (constant z)) None)
     go true e = let h : T (holds Single.single z) = subst T (sym e) tt in (h, constant_lawful z h, constant_units z h)
     go false e = e
+
+pub zero_constant : ZeroIsConstant
+unfolding to_bits of_int
+zero_constant = refl
 
 -- ---- indexes
 

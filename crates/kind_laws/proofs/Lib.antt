@@ -7,4 +7,5 @@ pub mod Range
 pub mod Rounded
 pub mod Operations
 pub mod Comparisons
+pub mod Fittings
 pub mod Truncation

@@ -1,13 +1,16 @@
 -- Whole's quotient drops the fraction.
-use Rattle.std.proofs.Common.{◌≡◌, ℕ, zero, suc, ◌+◌, ◌*◌, ◌/◌, ◌%◌, ◌<◌, Bool, true, false, eqb, ℤ, pos, negsuc, ◌+ℤ◌, ◌*ℤ◌, neg_ℤ, nat_abs, ◌≤ℤ◌, Err, sym, refl, ap, ◌∙◌, subst, mod-lt, div-add-mod', arith}
+use Rattle.std.proofs.Common.{◌≡◌, ℕ, zero, suc, ◌+◌, ◌*◌, ◌/◌, ◌%◌, ◌<◌, Bool, true, false, eqb, ℤ, pos, negsuc, ◌+ℤ◌, ◌*ℤ◌, neg_ℤ, nat_abs, ◌≤ℤ◌, Err, Result, sym, refl, ap, ◌∙◌, subst, mod-lt, div-add-mod', arith}
 use lib.Signed.{quot_z, non_neg}
 use Rattle.std.proofs.lemmas.Int.{ints}
 use Rattle.std.proofs.lemmas.Bool.{true≢false, false≢true, eq-eqb, ne_eqb, cond-true, cond-false}
 use Rattle.std.proofs.lemmas.Bool.Decides.{nat_tests}
+use Rattle.kinds.specs.declared.fault.ArithmeticFault.{ArithmeticFault}
 use Rattle.kinds.specs.declared.fault.ArithmeticFault.TheVariants.{ZeroDivisor}
 use Rattle.kinds.specs.Whole.{value, fitting}
 use Rattle.kind_laws.specs.Exact.{signed}
+use Rattle.kind_laws.specs.Fitting.{Gives}
 use Rattle.kind_laws.specs.Dividing.{DropsFraction, QuotientsTruncate}
+use Rattle.kind_laws.proofs.Fittings.{fitting_gives}
 use Rattle.kind_laws.proofs.Signs.{size_of, signed_mul}
 
 -- by the signs s of a and t of b, with a = q * b + r for the sizes
@@ -44,5 +47,7 @@ pub quotients_truncate : QuotientsTruncate
 quotients_truncate a b l = record {
   zero_divisor = λ e. cond-true (eqb b 0) (Err ZeroDivisor) (fitting (quot_z (value a) (value b))) (eq-eqb b 0 (value_zero b l e));
   quotient = λ n.
-      (quot_z (value a) (value b), drops (value a) (value b) n, cond-false (eqb b 0) (Err ZeroDivisor) (fitting (quot_z (value a) (value b))) (ne_eqb b 0 (λ e. n (ap value e))));
+      let q = quot_z (value a) (value b) in
+      let e = cond-false (eqb b 0) (Err ZeroDivisor) (fitting q) (ne_eqb b 0 (λ e. n (ap value e))) in
+      (q, drops (value a) (value b) n, subst (λ (r : Result ℕ ArithmeticFault). Gives q r) (sym e) (fitting_gives q));
 }

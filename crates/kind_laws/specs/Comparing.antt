@@ -30,5 +30,9 @@ OrderIsOfNumbers = (a b : ℕ) → T (lawful a) → T (lawful b) → single.less
 abbrev pub ConstantsAreExact : Type 0
 ConstantsAreExact = (z : ℤ) → Constant z (constant_word single z)
 
+-- the word of the constant 0 is the one that a new cell holds, which is 0 and not minus zero's
+abbrev pub ZeroIsConstant : Type 0
+ZeroIsConstant = single.constant (pos 0) ≡ single.zero
+
 abbrev pub IndexesAreExact : Type 0
 IndexesAreExact = (w : ℕ) → T (lawful w) → Index w (single.index w)

@@ -11,6 +11,6 @@ mod whole;
 pub use any::plus_constant;
 pub use single::{
     exact_constant, exact_index, rounded_difference, rounded_product, rounded_quotient,
-    rounded_sum, same_number, smaller_number,
+    rounded_sum, same_number, smaller_number, zero_constant,
 };
-pub use whole::{constant_value, truncated_quotient};
+pub use whole::{constant_value, exact_difference, exact_product, exact_sum, truncated_quotient};

@@ -1,5 +1,5 @@
 -- What a number kind means. A word is a number of 32 bits, 0 to 4294967295.
-use Rattle.std.specs.Prelude.{◌≡◌, ℕ, ◌<◌, Bool, cond, ◌&&◌, T, ℤ, pos, Some, None, Ok, Err, Option, Result, int_le}
+use Rattle.std.specs.Prelude.{ℕ, Bool, cond, ◌&&◌, T, ℤ, Some, None, Ok, Err, Option, Result, int_le}
 use Rattle.kinds.specs.declared.fault.ArithmeticFault.{ArithmeticFault}
 
 pub record Arithmetic : Type 0 where
@@ -34,19 +34,11 @@ abbrev pub LawfulResult : Arithmetic → Result ℕ ArithmeticFault → Type 0
 LawfulResult k (Ok w) = T (k.lawful w)
 LawfulResult k (Err f) = Unit {0}
 
--- an index, if there is one, is a number of 32 bits
-abbrev pub SmallIndex : Option ℕ → Type 0
-SmallIndex (Some n) = n < 4294967296
-SmallIndex None = Unit {0}
-
 -- what holds of every kind
 pub record Laws (k : Arithmetic) : Type 0 where
-  pub lawful_small : (w : ℕ) → T (k.lawful w) → w < 4294967296
   pub zero_lawful : T (k.lawful k.zero)
-  pub constant_zero : k.constant (pos 0) ≡ k.zero
   pub constant_lawful : (z : ℤ) → T (holds k z) → T (k.lawful (k.constant z))
   pub sum_lawful : (a b : ℕ) → T (k.lawful a) → T (k.lawful b) → LawfulResult k (k.sum a b)
   pub difference_lawful : (a b : ℕ) → T (k.lawful a) → T (k.lawful b) → LawfulResult k (k.difference a b)
   pub product_lawful : (a b : ℕ) → T (k.lawful a) → T (k.lawful b) → LawfulResult k (k.product a b)
   pub quotient_lawful : (a b : ℕ) → T (k.lawful a) → T (k.lawful b) → LawfulResult k (k.quotient a b)
-  pub index_small : (w : ℕ) → T (k.lawful w) → SmallIndex (k.index w)

@@ -1,5 +1,5 @@
 -- The cases, computed.
-use Rattle.std.proofs.Common.{◌≡◌, ℕ, zero, suc, ◌<◌, ◌≤◌, ◌-◌, List, [], ◌∷◌, ◌++◌, map, length, get_or, take, drop, replicate, pos, ℤ, None, Option, refl, sym, ap, ◌∙◌, subst, arith}
+use Rattle.std.proofs.Common.{◌≡◌, ℕ, zero, suc, ◌<◌, ◌≤◌, List, [], ◌∷◌, ◌++◌, map, length, get_or, take, drop, pos, ℤ, None, Option, refl, sym, ap, ◌∙◌, subst, arith}
 use Rattle.std.specs.List.{range_with_len}
 use Rattle.std.proofs.lemmas.List.{take-append-drop}
 use Rattle.std.proofs.lemmas.List.FromFn.{get_or-map-range_with_len}
@@ -21,7 +21,7 @@ use Rattle.rule.specs.Rewriting.{Ending}
 use Rattle.rule.specs.Closing.{Closing, Closes, program_of}
 use Rattle.rule.proofs.Count.{closing, closes_by}
 use Rattle.published.specs.Double.{double, double_records}
-use Rattle.published.specs.Runs.{Run}
+use Rattle.published.specs.Runs.{Run, with_zeros}
 use Rattle.published.specs.Cases.{Published}
 use Rattle.published.specs.Scopes.{ToldApart, through_formal, own_locals, static_scope, fixed_index, alias, shadowed_procedure}
 
@@ -43,10 +43,10 @@ shown k c = record { ending = c.ending; count = c.count; store = take k c.store 
 
 -- a closing that rewriting computes
 closes : (ls : List Line) (size : ℕ) (first : List ℕ) (n : ℕ) (e : Ending) (count : ℕ) (last : List ℕ)
-    → shown (length last) (closing whole (program_of ls (text ls)) size (first ++ replicate (size - length first) 0) n) ≡ record { ending = e; count = count; store = last }
+    → shown (length last) (closing whole (program_of ls (text ls)) size (with_zeros size first) n) ≡ record { ending = e; count = count; store = last }
     → Run ls size first n e count last
 closes ls size first n e count last h s =
-    let σ = first ++ replicate (size - length first) 0 in
+    let σ = with_zeros size first in
     let P = program_of ls (text ls) in
     let c = closing whole P size σ n in
     let others = drop (length last) c.store in

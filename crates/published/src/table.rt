@@ -1,7 +1,7 @@
 // The table of cases, as the contract of a function: the check then asks for its proof.
 ghost use Rattle.published.specs.Cases.{Published};
 ghost use Rattle.published.specs.Scopes.{ToldApart};
-ghost use Rattle.published.specs.Session.{SessionTold};
+ghost use Rattle.published.specs.Session.{SessionsTold};
 
 /// The cases that are published with the sample card: the card as it is read, its runs by the copy rule, and values of the number kinds.
 pub fn published_cases()
@@ -13,7 +13,7 @@ pub fn scope_cases()
     ensures { ToldApart }
 {}
 
-/// A session of the double sheet: what is due to each of its calls.
-pub fn session_case()
-    ensures { SessionTold }
+/// Sessions of the double sheet: what is replied to each of their calls, and the words that its globals hold then.
+pub fn session_cases()
+    ensures { SessionsTold }
 {}

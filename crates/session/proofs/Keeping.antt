@@ -39,7 +39,7 @@ use Rattle.session.specs.Sessions.{Held, Setting, after_opening, after_post, cel
 use Rattle.session.specs.Runs.{AfterBegin, Granted, WentOn, after_close, begin_answer, close_answer, closing, grant_refusal}
 use Rattle.session.specs.Promise.{Holds, Keeps, StandsAfter, setting, to_begin, to_close, to_grant, to_open, to_post, to_reading}
 
-few_lines : (low high : ℤ) (rs : List Record) → Accepted low high rs → length (lines_of rs) ≤ 2048
+pub few_lines : (low high : ℤ) (rs : List Record) → Accepted low high rs → length (lines_of rs) ≤ 2048
 few_lines low high rs a = let e = length-map rs (λ r. r.line) in let few = a.few in omega (arith, e, few)
 
 module _ (K : Arithmetic) (rs : List Record) where

@@ -2,3 +2,4 @@ pub mod Passing
 pub mod Going
 pub mod Keeping
 pub mod Talking
+pub mod Both

@@ -5,4 +5,6 @@ mod opening;
 pub mod playing;
 pub mod runs;
 pub mod sessions;
+#[cfg(test)]
+mod tests;
 pub mod tickets;

@@ -1,7 +1,8 @@
 // Lists of calls: one after the other is asked of a caller's place, over one store.
 ghost use Rattle.std.specs.Prelude.{◌≡◌, min, length, take, drop};
 ghost use Rattle.acceptance.specs.Scripts.{Accepted};
-ghost use Rattle.calls.specs.Laws.{BegunAll, OneReply};
+ghost use Rattle.acceptance.specs.Sheet.{lines_of};
+ghost use Rattle.calls.specs.Laws.{BegunAll, OneReply, StoreInRun, TwoSessions, global_store};
 ghost use Rattle.faults.specs.Known.{ClosingsKnown};
 ghost use Rattle.session.specs.Promise.{Keeps, Talked, to_begin, to_close, to_grant, to_open, to_post, to_reading};
 
@@ -80,7 +81,8 @@ impl<'s, 'r, K: NumberKind> Session<'s, 'r, K> {
 /// is of the script, and each call is handed the store.
 ///
 /// The promise is told of the calls and the replies by history and the copy rule; and the store then holds exactly the words that they tell. The clauses
-/// below it are laws of what is due: there is one list of replies, no ending is lost where it is told, and a run that goes on has begun all that it was granted.
+/// below it are laws of what is due: there is one list of replies, a run that goes on has begun all that it was
+/// granted, in a run the store holds what the copy rule's closing has with that, and no ending is lost where it is told.
 pub fn play<K: NumberKind, S: Store>(
     script: &Script<K>,
     store: &mut S,
@@ -92,6 +94,7 @@ pub fn play<K: NumberKind, S: Store>(
     ensures promise { (a : Accepted K.kind.least K.kind.most script.now) → Talked K.kind script.now a (S.Store.words store.old) (take result calls.now) (take result replies.new) (S.Store.words store.new) }
     ensures one_reply { OneReply }
     ensures begun_all { BegunAll }
+    ensures store_in_run { StoreInRun }
     ensures endings { ClosingsKnown }
     ensures rest { drop result replies.new ≡ drop result replies.old }
     ensures lent { S.Store.lent store.new ≡ S.Store.lent store.old }
@@ -104,4 +107,36 @@ pub fn play<K: NumberKind, S: Store>(
         replies[i] = session.make(script, store, *call);
     }
     made
+}
+
+/// Makes the same calls in two places of their own, over two stores of whatever makes, as many as there are places for the replies of both, and tells how
+/// many that were. So two units can be held to each other.
+///
+/// Each place and store is as after `play`. Over stores of equal size with equal global stores the replies are equal; and by the law below it, replies that are equal
+/// to an opening and to whatever readings after it tell that the global stores were.
+pub fn play_both<K: NumberKind, S: Store, T: Store>(
+    script: &Script<K>,
+    first: &mut S,
+    second: &mut T,
+    calls: &[Call],
+    first_replies: &mut [Reply],
+    second_replies: &mut [Reply],
+) -> usize
+    ensures accepted { Accepted K.kind.least K.kind.most script.now }
+    ensures count { result ≡ min (length calls.now) (min (length first_replies.old) (length second_replies.old)) }
+    ensures first_promise { (a : Accepted K.kind.least K.kind.most script.now) → Talked K.kind script.now a (S.Store.words first.old) (take result calls.now) (take result first_replies.new) (S.Store.words first.new) }
+    ensures second_promise { (a : Accepted K.kind.least K.kind.most script.now) → Talked K.kind script.now a (T.Store.words second.old) (take result calls.now) (take result second_replies.new) (T.Store.words second.new) }
+
+    ensures alike { length (S.Store.words first.old) ≡ length (T.Store.words second.old) → global_store (lines_of script.now) (S.Store.words first.old) ≡ global_store (lines_of script.now) (T.Store.words second.old) → take result first_replies.new ≡ take result second_replies.new }
+    ensures two_sessions { TwoSessions }
+
+    ensures first_rest { drop result first_replies.new ≡ drop result first_replies.old }
+    ensures second_rest { drop result second_replies.new ≡ drop result second_replies.old }
+    ensures first_lent { S.Store.lent first.new ≡ S.Store.lent first.old }
+    ensures second_lent { T.Store.lent second.new ≡ T.Store.lent second.old }
+{
+    let most = first_replies.len().min(second_replies.len());
+    let calls = &calls[..calls.len().min(most)];
+    play(script, first, calls, first_replies);
+    play(script, second, calls, second_replies)
 }

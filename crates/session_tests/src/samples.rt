@@ -28,7 +28,7 @@ pub const INFINITE: u32 = 2139095040;
 pub const MOST_WORDS: usize = 6;
 
 // The words as a byte image has them.
-pub fn bytes_of(words: &[u32]) -> [u8; 4 * MOST_WORDS] {
+pub(crate) fn bytes_of(words: &[u32]) -> [u8; 4 * MOST_WORDS] {
     let mut bytes = [0; 4 * MOST_WORDS];
     for (index, word) in words.iter().enumerate().take(MOST_WORDS) {
         bytes[4 * index..4 * index + 4].copy_from_slice(&word.to_le_bytes());
@@ -36,11 +36,11 @@ pub fn bytes_of(words: &[u32]) -> [u8; 4 * MOST_WORDS] {
     bytes
 }
 
-pub fn refused(cause: SessionCause) -> Reply {
+pub(crate) fn refused(cause: SessionCause) -> Reply {
     Err(Refusal::without_line(cause))
 }
 
-pub fn simple(name: Name, index: u16) -> GlobalCell {
+pub(crate) fn simple(name: Name, index: u16) -> GlobalCell {
     GlobalCell {
         sort: GlobalSort::Simple,
         name,
@@ -48,7 +48,7 @@ pub fn simple(name: Name, index: u16) -> GlobalCell {
     }
 }
 
-pub fn element(name: Name, index: u16) -> GlobalCell {
+pub(crate) fn element(name: Name, index: u16) -> GlobalCell {
     GlobalCell {
         sort: GlobalSort::Array,
         name,
@@ -56,10 +56,10 @@ pub fn element(name: Name, index: u16) -> GlobalCell {
     }
 }
 
-pub fn post(global: GlobalCell, word: u32) -> Call {
+pub(crate) fn post(global: GlobalCell, word: u32) -> Call {
     Call::Post { global, word }
 }
 
-pub fn reading(global: GlobalCell) -> Call {
+pub(crate) fn reading(global: GlobalCell) -> Call {
     Call::Reading { global }
 }

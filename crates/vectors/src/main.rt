@@ -1,8 +1,8 @@
 // Holds both number kinds to cases made elsewhere: says how many of each operation agree.
 #![tactic(auto)]
 
-ghost use Rattle.std.specs.Prelude.{◌≡◌, Decides};
-ghost use Rattle.vectors.specs.Answers.{answered};
+ghost use Rattle.std.specs.Prelude.{Decides};
+ghost use Rattle.vectors.specs.Counts.{Asks, Counts, GivesWanted};
 
 mod answer;
 mod case;
@@ -21,9 +21,16 @@ struct Tally {
     all: usize,
 }
 
+// Whether the case is one of the operation.
+fn asks(case: &Case, operation: Operation) -> bool
+    ensures { Decides result (Asks operation case.now) }
+{
+    case.operation == operation
+}
+
 // Whether the kind gives what is wanted.
 fn agrees<K: NumberKind>(case: &Case) -> bool
-    ensures { Decides result (answered K.kind case.now.operation case.now.a case.now.b ≡ case.now.wanted) }
+    ensures { Decides result (GivesWanted K.kind case.now) }
 {
     answer_of::<K>(case.operation, case.a, case.b) == case.wanted
 }
@@ -42,14 +49,16 @@ fn cases_of<F: Fn(Case) -> Case>(
         .collect(alloc)
 }
 
-fn tally_of<K: NumberKind>(cases: &[Case], operation: Operation) -> Tally {
-    let asked = |case: &Case| case.operation == operation;
+fn tally_of<K: NumberKind>(cases: &[Case], operation: Operation) -> Tally
+    ensures agree { Counts (λ c. Asks operation c × GivesWanted K.kind c) cases.now result.agree }
+    ensures all { Counts (Asks operation) cases.now result.all }
+{
     Tally {
         agree: cases
             .iter()
-            .filter(|case| asked(case) && agrees::<K>(case))
+            .filter(|case| asks(case, operation) && agrees::<K>(case))
             .count(),
-        all: cases.iter().filter(|case| asked(case)).count(),
+        all: cases.iter().filter(|case| asks(case, operation)).count(),
     }
 }
 

@@ -1,5 +1,6 @@
 use Rattle.std.proofs.Common.{◌≡◌, ◌+◌, ◌<◌, [], ◌∷◌, ◌++◌, length, get_or, set, take, drop, sym, refl, ◌∙◌, subst, subst₂, arith}
 use Rattle.std.proofs.lemmas.List.{get_or-take, length-take, take_more, take_more_set, drop-set-lt}
+use Rattle.calls.proofs.Stored.{store_in_run}
 use Rattle.calls.proofs.Counting.{begun_all}
 use Rattle.calls.proofs.Replies.{one_reply}
 use Rattle.faults.proofs.Known.{closings_known}
@@ -12,6 +13,9 @@ returns-clause-one_reply g c = one_reply
 
 pub returns-clause-begun_all : goal.returns-clause-begun_all
 returns-clause-begun_all g c = begun_all
+
+pub returns-clause-store_in_run : goal.returns-clause-store_in_run
+returns-clause-store_in_run g c = store_in_run
 
 pub returns-clause-endings : goal.returns-clause-endings
 returns-clause-endings g c = closings_known
