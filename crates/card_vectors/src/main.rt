@@ -1,4 +1,5 @@
-// Holds the task of a unit's program to sheets made elsewhere: says of how many sheets it writes just the lines that it should, over both stores.
+// Holds the task of a unit's program to sheets made elsewhere: says of each file, for both stores, of how many sheets it writes just the lines that it
+// should.
 #![tactic(auto)]
 
 mod cases;
@@ -12,6 +13,8 @@ use std::fs;
 use stores::{ByteImage, Store, WordTable};
 
 const CELLS: usize = 1024;
+
+const FILES: [&str; 2] = ["runs.txt", "edge_runs.txt"];
 
 // How many cases came out as they should, and how many did not.
 #[derive(Drop)]
@@ -42,9 +45,9 @@ fn is_right<S: Store>(
     Ok(lines.as_slice() == case.want)
 }
 
-fn main(rt: HostRuntime) -> anyhow::Result<()> {
-    let text = fs::read(&rt, "runs.txt")?;
-    let mut records = vec![in rt.alloc(); Record::BLANK; MOST_LINES]?;
+// Holds the task over both stores to the sheets of one file, and says what came of it.
+fn hold(rt: HostRuntime, file: &str, records: &mut [Record]) -> anyhow::Result<()> {
+    let text = fs::read(&rt, file)?;
     let mut tables = Tally { right: 0, wrong: 0 };
     let mut images = Tally { right: 0, wrong: 0 };
     let mut cases = Cases {
@@ -53,19 +56,27 @@ fn main(rt: HostRuntime) -> anyhow::Result<()> {
     for case in &mut cases {
         let mut cells = [0; CELLS];
         let mut table = WordTable::new(&mut cells);
-        tables.count(is_right(rt.alloc(), case, &mut records, &mut table)?);
+        tables.count(is_right(rt.alloc(), case, records, &mut table)?);
         let mut bytes = [0; 4 * CELLS];
         let mut image = ByteImage::new(&mut bytes);
-        images.count(is_right(rt.alloc(), case, &mut records, &mut image)?);
+        images.count(is_right(rt.alloc(), case, records, &mut image)?);
     }
     println!(rt;
-        "over tables: right {}, wrong {}",
+        "{file} over tables: right {}, wrong {}",
         tables.right, tables.wrong
     )?;
     println!(rt;
-        "over images: right {}, wrong {}",
+        "{file} over images: right {}, wrong {}",
         images.right, images.wrong
     )?;
-    println!(rt; "bytes left: {}", cases.rest.len())?;
+    println!(rt; "{file} bytes left: {}", cases.rest.len())?;
+    Ok(())
+}
+
+fn main(rt: HostRuntime) -> anyhow::Result<()> {
+    let mut records = vec![in rt.alloc(); Record::BLANK; MOST_LINES]?;
+    for file in FILES {
+        hold(rt, file, &mut records)?;
+    }
     Ok(())
 }
