@@ -15,6 +15,7 @@ use Rattle.calls.specs.declared.asked.Call.{Call}
 use Rattle.calls.specs.declared.causes.SessionCause.{SessionCause}
 use Rattle.calls.specs.History.{Event, History, Reply, call_of, ledger, reply_of}
 use Rattle.calls.specs.Answers.{Answered, Conversation}
+use Rattle.calls.specs.Laws.{global_store}
 use Rattle.calls.specs.Standing.{Phase, away, rest, running, over, Stands}
 use Rattle.session.specs.declared.runs.Closing.{Closing}
 use Rattle.session.specs.declared.runs.RunState.{RunState}
@@ -57,6 +58,14 @@ module _ (K : Arithmetic) (rs : List Record) where
   pub record Talked (a : Accepted K.least K.most rs) (σ : List ℕ) (calls : List Call) (replies : List Reply) (σ' : List ℕ) : Type 0 where
     pub answered : Answered K (lines_of rs) a.script.text (length σ) σ calls replies
     pub store : σ' ≡ (ledger (lines_of rs) σ answered.history).words
+
+-- the same of every script that is accepted, however that is known
+abbrev pub Plays : (K : Arithmetic) → List Record → List ℕ → List Call → List Reply → List ℕ → Type 0
+Plays K rs σ calls replies σ' = (a : Accepted K.least K.most rs) → Talked K rs a σ calls replies σ'
+
+-- stores of equal size with equal global stores
+abbrev pub AlikeStores : List Record → List ℕ → List ℕ → Type 0
+AlikeStores rs σ τ = (length σ ≡ length τ) × (global_store (lines_of rs) σ ≡ global_store (lines_of rs) τ)
 
 -- ## The replies of the single calls
 

@@ -1,10 +1,9 @@
 // Lists of calls: one after the other is asked of a caller's place, over one store.
 ghost use Rattle.std.specs.Prelude.{◌≡◌, min, length, take, drop};
 ghost use Rattle.acceptance.specs.Scripts.{Accepted};
-ghost use Rattle.acceptance.specs.Sheet.{lines_of};
-ghost use Rattle.calls.specs.Laws.{BegunAll, OneReply, StoreInRun, TwoSessions, global_store};
+ghost use Rattle.calls.specs.Laws.{BegunAll, OneReply, StoreInRun, TwoSessions};
 ghost use Rattle.faults.specs.Known.{ClosingsKnown};
-ghost use Rattle.session.specs.Promise.{Keeps, Talked, to_begin, to_close, to_grant, to_open, to_post, to_reading};
+ghost use Rattle.session.specs.Promise.{AlikeStores, Keeps, Plays, to_begin, to_close, to_grant, to_open, to_post, to_reading};
 
 use crate::runs::{Closing, RunState};
 use crate::sessions::Session;
@@ -91,7 +90,7 @@ pub fn play<K: NumberKind, S: Store>(
 ) -> usize
     ensures accepted { Accepted K.kind.least K.kind.most script.now }
     ensures count { result ≡ min (length calls.now) (length replies.old) }
-    ensures promise { (a : Accepted K.kind.least K.kind.most script.now) → Talked K.kind script.now a (S.Store.words store.old) (take result calls.now) (take result replies.new) (S.Store.words store.new) }
+    ensures promise { Plays K.kind script.now (S.Store.words store.old) (take result calls.now) (take result replies.new) (S.Store.words store.new) }
     ensures one_reply { OneReply }
     ensures begun_all { BegunAll }
     ensures store_in_run { StoreInRun }
@@ -124,10 +123,10 @@ pub fn play_both<K: NumberKind, S: Store, T: Store>(
 ) -> usize
     ensures accepted { Accepted K.kind.least K.kind.most script.now }
     ensures count { result ≡ min (length calls.now) (min (length first_replies.old) (length second_replies.old)) }
-    ensures first_promise { (a : Accepted K.kind.least K.kind.most script.now) → Talked K.kind script.now a (S.Store.words first.old) (take result calls.now) (take result first_replies.new) (S.Store.words first.new) }
-    ensures second_promise { (a : Accepted K.kind.least K.kind.most script.now) → Talked K.kind script.now a (T.Store.words second.old) (take result calls.now) (take result second_replies.new) (T.Store.words second.new) }
+    ensures first_promise { Plays K.kind script.now (S.Store.words first.old) (take result calls.now) (take result first_replies.new) (S.Store.words first.new) }
+    ensures second_promise { Plays K.kind script.now (T.Store.words second.old) (take result calls.now) (take result second_replies.new) (T.Store.words second.new) }
 
-    ensures alike { length (S.Store.words first.old) ≡ length (T.Store.words second.old) → global_store (lines_of script.now) (S.Store.words first.old) ≡ global_store (lines_of script.now) (T.Store.words second.old) → take result first_replies.new ≡ take result second_replies.new }
+    ensures alike { AlikeStores script.now (S.Store.words first.old) (T.Store.words second.old) → take result first_replies.new ≡ take result second_replies.new }
     ensures two_sessions { TwoSessions }
 
     ensures first_rest { drop result first_replies.new ≡ drop result first_replies.old }

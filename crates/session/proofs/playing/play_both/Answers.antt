@@ -26,11 +26,11 @@ returns-clause-second_promise g c a =
     n c.play-2.result c.play-2.result made made (c.play-2.ensures.promise a)
 
 pub returns-clause-alike : goal.returns-clause-alike
-returns-clause-alike g c long same =
+returns-clause-alike g c same =
     let a = c.play.ensures.accepted in
     replied_alike g.K.NumberKind.kind c.args.script.now a (g.S.Store.words c.args.first.now) (g.T.Store.words c.args.second.now)
     (g.S.Store.words c.play.new.store) (g.T.Store.words c.play-2.new.store) (take c.play-2.result c.args.calls.now)
-    (take c.play-2.result c.play.new.replies) (take c.play-2.result c.play-2.new.replies) long same
+    (take c.play-2.result c.play.new.replies) (take c.play-2.result c.play-2.new.replies) same.0 same.1
     (returns-clause-first_promise g c a) (returns-clause-second_promise g c a)
 
 pub returns-clause-two_sessions : goal.returns-clause-two_sessions
