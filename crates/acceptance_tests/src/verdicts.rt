@@ -63,3 +63,24 @@ fn depth_ends_at_64(rt: HostRuntime) -> Result<(), Fail> {
     );
     Ok(())
 }
+
+// How many lines a script has: as an error of a program, its refusal goes through `?`.
+fn lines_of_script(text: &str, records: &mut [Record]) -> anyhow::Result<usize> {
+    let reading = read_script::<Whole>(text.as_bytes(), records);
+    let script = reading.script()?;
+    Ok(script.records().len())
+}
+
+#[test]
+fn a_refusal_is_an_error(rt: HostRuntime) -> Result<(), Fail> {
+    let mut records = [Record::BLANK; 5];
+    let Err(error) = lines_of_script("1,k,1,0,0,0\n", &mut records) else {
+        return Err(Fail::new("the sheet is accepted"));
+    };
+    let told = format!(in rt.alloc(); "{error}")?;
+    assert_eq!(rt;
+        told.as_str(),
+        "6 at line 1: the lines do not make one script"
+    );
+    Ok(())
+}
