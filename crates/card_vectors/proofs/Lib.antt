@@ -1,1 +1,1 @@
-pub mod Shorter
+pub mod Further

@@ -1,6 +1,7 @@
 // Cases as the file spells them.
-ghost use Rattle.std.specs.Prelude.{◌<◌, length, IfSome};
+ghost use Rattle.std.specs.Prelude.{◌≡◌, ℕ, ◌<◌, List, ◌++◌, length, IfSome};
 ghost use Rattle.std.specs.Iterator.{at_most};
+ghost use Rattle.card_vectors.specs.Layout.{HasCase, HasHead};
 
 use std::str::from_utf8;
 use text::cutting::cut;
@@ -13,7 +14,9 @@ pub struct Case<'a> {
 }
 
 // The number after a word, as in `sheet 25`.
-fn count_after(line: &[u8], word: &str) -> Option<u16> {
+fn count_after(line: &[u8], word: &str) -> Option<u16>
+    ensures { IfSome result (λ _. (number : List ℕ) × (line.now ≡ word.now ++ number)) }
+{
     let number = from_utf8(line).ok()?.strip_prefix(word)?;
     number.parse().ok()
 }
@@ -38,7 +41,8 @@ impl<'a> Iterator for Cases<'a> {
 
 // The next case, and the text after it; nothing where the text has no more.
 pub fn next_case<'a>(text: &'a [u8]) -> Option<(Case<'a>, &'a [u8])>
-    ensures { IfSome result (λ p. length p.1.now < length text.now) }
+    ensures whole { IfSome result (λ p. HasCase text.now p.0.sheet.now p.0.want.now p.1.now) }
+    ensures shorter { IfSome result (λ p. length p.1.now < length text.now) }
 {
     let (sheet, rest) = take_lines(text, "sheet ")?;
     let (want, rest) = take_lines(rest, "want ")?;
@@ -46,13 +50,14 @@ pub fn next_case<'a>(text: &'a [u8]) -> Option<(Case<'a>, &'a [u8])>
 }
 
 // The lines after a head with their number, as `sheet 25`, and the text after them.
-#[tactic(auto, using(crate::proofs::Shorter::shorter))]
 fn take_lines<'a>(text: &'a [u8], word: &str) -> Option<(&'a [u8], &'a [u8])>
-    ensures { IfSome result (λ p. length p.1.now < length text.now) }
+    ensures whole { IfSome result (λ p. HasHead word.now text.now (p.0.now ++ p.1.now)) }
+    ensures shorter { IfSome result (λ p. length p.1.now < length text.now) }
 {
     let (head, lines) = cut(text, b'\n')?;
+    let count = count_after(head, word)?;
     let mut rest = lines;
-    for _ in 0..count_after(head, word)? {
+    for _ in 0..count {
         (_, rest) = cut(rest, b'\n')?;
     }
     Some((&lines[..lines.len() - rest.len()], rest))

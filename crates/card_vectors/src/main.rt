@@ -2,13 +2,16 @@
 // should.
 #![tactic(auto)]
 
+ghost use Rattle.std.specs.Prelude.{◌≡◌, ◌+◌, length, min, IfOk, IsTrue, if◌then◌else◌};
+ghost use Rattle.field.specs.Report.{Writes};
+
 mod cases;
 
 use cases::{Case, Cases};
 use field::field_run;
 use lines::records::Record;
 use sheet::reader::MOST_LINES;
-use std::alloc::Global;
+use std::alloc::{AllocError, Global};
 use std::fs;
 use stores::{ByteImage, Store, WordTable};
 
@@ -24,23 +27,27 @@ struct Tally {
 }
 
 impl Tally {
-    fn count(&mut self, right: bool) {
-        let counter = if right {
-            &mut self.right
+    fn count(&mut self, right: bool)
+        ensures right { self.new.right ≡ (if right then min (self.old.right + 1) 4294967295 else self.old.right) }
+        ensures wrong { self.new.wrong ≡ (if right then self.old.wrong else min (self.old.wrong + 1) 4294967295) }
+    {
+        if right {
+            self.right = self.right.saturating_add(1);
         } else {
-            &mut self.wrong
-        };
-        *counter = counter.saturating_add(1);
+            self.wrong = self.wrong.saturating_add(1);
+        }
     }
 }
 
-// Whether the lines of a sheet are those wanted, over a store of zero words.
+// Whether the lines that are written of a sheet are those wanted.
 fn is_right<S: Store>(
     heap: Global,
-    case: Case,
+    case: &Case,
     records: &mut [Record],
     store: &mut S,
-) -> anyhow::Result<bool> {
+) -> Result<bool, AllocError>
+    ensures { IfOk result (λ right. IsTrue right → Writes (length records.old) case.now.sheet.now (S.Store.words store.old) case.now.want.now (S.Store.words store.new)) }
+{
     let lines = field_run(heap, case.sheet, records, store)?;
     Ok(lines.as_slice() == case.want)
 }
@@ -56,10 +63,10 @@ fn hold(rt: HostRuntime, file: &str, records: &mut [Record]) -> anyhow::Result<(
     for case in &mut cases {
         let mut cells = [0; CELLS];
         let mut table = WordTable::new(&mut cells);
-        tables.count(is_right(rt.alloc(), case, records, &mut table)?);
+        tables.count(is_right(rt.alloc(), &case, records, &mut table)?);
         let mut bytes = [0; 4 * CELLS];
         let mut image = ByteImage::new(&mut bytes);
-        images.count(is_right(rt.alloc(), case, records, &mut image)?);
+        images.count(is_right(rt.alloc(), &case, records, &mut image)?);
     }
     println!(rt;
         "{file} over tables: right {}, wrong {}",
