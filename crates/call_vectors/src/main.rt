@@ -22,7 +22,7 @@ use std::alloc::{AllocError, Global};
 use std::fs;
 use stores::{ByteImage, Store, WordTable};
 
-const FILES: [&str; 2] = ["calls.txt", "edge_calls.txt"];
+const FILES: [&str; 3] = ["calls.txt", "edge_calls.txt", "openings.txt"];
 
 // How many lists came out as they should, and how many did not.
 #[derive(Drop)]
