@@ -31,7 +31,7 @@ fn around<'a>(text: &'a str, word: &str) -> Option<(&'a str, &'a str)>
 }
 
 // The list of a part of the text, from its head to the line before its end.
-pub fn case_of<'a>(text: &'a str) -> Option<Case<'a>>
+pub(crate) fn case_of<'a>(text: &'a str) -> Option<Case<'a>>
     ensures { IfSome result (λ c. LaidOut text.now c.kind.now c.sheet.now c.store.now c.calls.now) }
 {
     let rest = after(text, "case ")?;
@@ -51,7 +51,7 @@ pub fn case_of<'a>(text: &'a str) -> Option<Case<'a>>
 
 impl<'a> Case<'a> {
     // The words of the store.
-    pub fn words(&self, heap: Global) -> anyhow::Result<Vec<u32>> {
+    pub(crate) fn words(&self, heap: Global) -> anyhow::Result<Vec<u32>> {
         let mut words = Vec::new(heap);
         for word in self.store.split_whitespace() {
             words.push(word.parse()?)?;
@@ -61,7 +61,7 @@ impl<'a> Case<'a> {
     }
 
     // The same as the bytes of an image.
-    pub fn bytes(&self, heap: Global) -> anyhow::Result<Vec<u8>> {
+    pub(crate) fn bytes(&self, heap: Global) -> anyhow::Result<Vec<u8>> {
         let words = self.words(heap)?;
         let mut bytes = Vec::new(heap);
         for word in &words {

@@ -47,7 +47,7 @@ fn spelled(words: &[&str]) -> Option<Call> {
 }
 
 // The call that a text spells. Nothing is promised of it, since the whole list is spelled again from the calls and compared with its text.
-pub fn call_of(heap: Global, text: &str) -> Result<Option<Call>, AllocError> {
+pub(crate) fn call_of(heap: Global, text: &str) -> Result<Option<Call>, AllocError> {
     let mut words = Vec::new(heap);
     for word in text.split(' ') {
         words.push(word)?;
@@ -132,7 +132,11 @@ fn line_text(heap: Global, call: Call, reply: Reply) -> Result<String, AllocErro
 }
 
 // The lines of a list: each call, in order, with its reply.
-pub fn lines_text(heap: Global, calls: &[Call], replies: &[Reply]) -> Result<String, AllocError>
+pub(crate) fn lines_text(
+    heap: Global,
+    calls: &[Call],
+    replies: &[Reply],
+) -> Result<String, AllocError>
     ensures { IfOk result (λ t. string_bytes t ≡ lines_text calls.now replies.now) }
 {
     let mut text = String::new(heap);

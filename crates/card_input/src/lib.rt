@@ -78,8 +78,8 @@ fn read_up_to<R: Read>(alloc: Global, reader: &mut R, most: usize) -> io::Result
 /// # Errors
 ///
 /// The reader's own error, at once, wherever it comes: so a card that is cut off by one never passes for a shorter
-/// card. A read that a signal interrupts is no error, and is tried again. `OutOfMemory`, before anything is read,
-/// where there is no memory for the card.
+/// card. A read that a signal interrupts is no error, and is tried again. `OutOfMemory` where there is
+/// no memory for the card.
 pub fn read_card<R: Read>(alloc: Global, reader: &mut R) -> io::Result<Vec<u8>>
     ensures bytes { IfOk result (λ card. IfSome (R.remaining reader.old) (λ all. card.items ≡ take most_read all)) }
     ensures given { IfOk result (λ card. Consumes (R.remaining reader.old) (R.remaining reader.new) card.items) }

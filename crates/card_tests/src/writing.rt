@@ -1,6 +1,7 @@
 // Written lines, and the text of a line.
 use std::test::Fail;
 use text::lines::line_text;
+use text::refusals::Refusal;
 use text::written::WrittenLine;
 
 #[test]
@@ -28,7 +29,8 @@ fn short_buffers_stay_as_they_are(rt: HostRuntime) -> Result<(), Fail> {
     let Err(refusal) = line.write(&mut short) else {
         return Err(Fail::new("too short for the line"));
     };
-    assert_eq!(rt; u8::from(refusal), 20);
+    let Refusal { cause, line: at } = refusal.numbered();
+    assert_eq!(rt; (cause, at), (20, 0));
     assert_eq!(rt; short, [b'.'; 7]);
     let mut just = [b'.'; 8];
     assert_eq!(rt; line.write(&mut just), Ok(8));

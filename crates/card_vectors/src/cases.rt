@@ -40,7 +40,7 @@ impl<'a> Iterator for Cases<'a> {
 }
 
 // The next case, and the text after it; nothing where the text has no more.
-pub fn next_case<'a>(text: &'a [u8]) -> Option<(Case<'a>, &'a [u8])>
+pub(crate) fn next_case<'a>(text: &'a [u8]) -> Option<(Case<'a>, &'a [u8])>
     ensures whole { IfSome result (λ p. HasCase text.now p.0.sheet.now p.0.want.now p.1.now) }
     ensures shorter { IfSome result (λ p. length p.1.now < length text.now) }
 {

@@ -1,15 +1,18 @@
 -- A card that is cut after 65,537 bytes is read as the whole card is.
-use Rattle.std.proofs.Common.{◌≡◌, ℕ, ◌<◌, ◌&&◌, Bool, true, false, cond, List, length, nat_le, take, replicate, Some, None, Option, Ok, Err, Result, sym, refl, ap, ◌∙◌, subst, inl, inr, arith}
+use Rattle.std.proofs.Common.{◌≡◌, ℕ, ◌+◌, ◌<◌, ◌≤◌, ◌&&◌, Bool, true, false, cond, List, length, nat_le, take, drop, replicate, Some, None, Option, Ok, Err, Result, sym, refl, ap, ◌∙◌, subst, inl, inr, arith}
 use Rattle.std.proofs.lemmas.Bool.{cases_lt, lt-leb}
-use Rattle.std.proofs.lemmas.List.{length-take-le, take_all}
+use Rattle.std.proofs.lemmas.List.{length-take, length-take-le, take-take, take_all}
 use Rattle.std.specs.Option.{IfSome}
 use Rattle.std.specs.Result.{OnOk}
 use Rattle.std.specs.Io.KnownBytes.{Appends}
+use Rattle.std.proofs.KnownBytes.{Appends-nil, Appends-trans}
+use lib.Seq.{take-add}
 use Rattle.sheet.specs.Reading.{from_line, outcome, refused}
 use Rattle.lines.specs.declared.refusals.Cause.TheVariants.{TextSize}
 use Rattle.text.specs.Lines.{rows}
-use Rattle.field.specs.Card.{CardTold}
+use Rattle.field.specs.Card.{CardTold, FrontTold}
 use Rattle.field.specs.Report.{Comes, Writes}
+use Rattle.field.proofs.OneReport.{one_report}
 
 and_false : (a b : Bool) → b ≡ false → (a && b) ≡ false
 and_false true b e = e
@@ -46,3 +49,31 @@ module _ (room : ℕ) (text items words report σ bytes : List ℕ) (known befor
       → OnOk x (IfSome known (λ card. CardTold card before after))
   told (Ok u) h a = told_known known h a
   told (Err e) h a = a
+
+  front_known : (n : ℕ) (k : Option (List ℕ)) → IfSome k (λ all. items ≡ take 65537 all) → Appends before after (take n bytes) → IfSome k (λ card. FrontTold card before after)
+  front_known n None h a = h
+  front_known n (Some all) h a =
+      let v : Writes 2048 (take 65537 all) (replicate 1024 0) report σ =
+      subst (λ m. Writes m (take 65537 all) (replicate 1024 0) report σ) r
+      (subst (λ ws. Writes room (take 65537 all) ws report σ) z (subst (λ x. Writes room x words report σ) (t ∙ h) w)) in
+      (report, σ, n, whole_card 2048 all (replicate 1024 0) report σ v, subst (λ bs. Appends before after (take n bs)) b a)
+
+  pub front_told : (n : ℕ) → IfSome known (λ all. items ≡ take 65537 all) → Appends before after (take n bytes) → IfSome known (λ card. FrontTold card before after)
+  front_told n h a = front_known n known h a
+
+-- before anything is written
+pub none_told : (known before : Option (List ℕ)) → IfSome known (λ card. FrontTold card before before)
+none_told None before = tt
+none_told (Some card) before =
+    let r = one_report 2048 card (replicate 1024 0) in
+    (r.0, r.1, 0, r.2, Appends-nil before)
+
+-- ## A report that is written piece by piece
+
+pub written_more : (a b c : Option (List ℕ)) (from n m : ℕ) (report : List ℕ) → n ≤ length (take m (drop from report)) → Appends a b (take from report)
+    → Appends b c (take n (take m (drop from report))) → Appends a c (take (from + n) report)
+written_more a b c from n m report h p q =
+    let rest = drop from report in
+    let l = length-take m rest in
+    let e : take n (take m rest) ≡ take n rest = take-take n m rest (omega (arith, h, l)) in
+    subst (Appends a c) (sym (take-add from n report)) (Appends-trans a b c (take from report) (take n rest) p (subst (Appends b c) e q))

@@ -81,9 +81,6 @@ module _ (K : Arithmetic) (ls : List Line) (t : Statement) (size : ℕ) (first :
   is_opened : after_opening (Ok tt) ≡ made_run
   is_opened = λ j. event_of K ls t size (ledger ls first (grant j ∷ began 1 ∷ opened ∷ [])) (Close 1) ∷ grant j ∷ began 1 ∷ opened ∷ []
 
-  is_refused : (x : Refusal SessionCause) → after_opening (Err x) ≡ made_none x
-  is_refused x = refl
-
   module _ (replies : List Reply) (a : Answered K ls t size first (once n) replies) where
     history_is : a.history ≡ after_opening (opening K ls first)
     history_is = is_made K ls t size first a.history a.talk ∙ ap (made K ls t size first) a.asked
