@@ -230,6 +230,15 @@ static int32_t in_range(int64_t number)
     return (int32_t)number;
 }
 
+/* a / b by the remainder: where that is half of b or more, one further from zero. */
+static int64_t quotient(int64_t a, int64_t b)
+{
+    int64_t whole = a / b;
+    if (2 * llabs(a % b) < llabs(b))
+        return whole;
+    return (a < 0) == (b < 0) ? whole + 1 : whole - 1;
+}
+
 static int32_t value(const Node *node)
 {
     switch (node->kind) {
@@ -241,7 +250,7 @@ static int32_t value(const Node *node)
     int64_t b = value(node->part[1]);
     if (node->kind == '/' && b == 0)
         fail(ZERO_DIVISOR);
-    return in_range(node->kind == '+' ? a + b : node->kind == '-' ? a - b : node->kind == '*' ? a * b : a / b);
+    return in_range(node->kind == '+' ? a + b : node->kind == '-' ? a - b : node->kind == '*' ? a * b : quotient(a, b));
 }
 
 static int holds(const Node *node)

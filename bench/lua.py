@@ -135,20 +135,19 @@ class Function:
         right, _ = self.value(node.parts[1], after)
         result = self.temporary(free)
         if node.kind == "/":
-            self.divide(left, right, after, result)
+            self.divide(left, right, result)
         else:
             self.emit(f"{result} = {left} {node.kind} {right}")
         # not from -2147483648 to 2147483647
         self.check(f"{result} + 2147483648 >> 32 ~= 0", 21)
         return result, free + 1
 
-    def divide(self, left, right, free, result):
-        """Lua's // goes downwards, the sheet's quotient towards zero."""
+    def divide(self, left, right, result):
+        """Lua's // goes downwards, the sheet's quotient to the nearest number: a half is added before, or taken off a negative one."""
         self.check(f"{right} == 0", 22)
-        quotient = self.temporary(free + 1)
-        self.emit(f"{quotient} = {left} // {right}")
-        self.emit(f"if {quotient} < 0 and {quotient} * {right} ~= {left} then {quotient} = {quotient} + 1 end")
-        self.emit(f"{result} = {quotient}")
+        up = f"({left} * 2 + {right}) // ({right} * 2)"
+        down = f"-(({right} - {left} * 2) // ({right} * 2))"
+        self.emit(f"if {left} ~ {right} < 0 then {result} = {down} else {result} = {up} end")
 
     def index(self, node, free):
         """The index of an element, checked."""

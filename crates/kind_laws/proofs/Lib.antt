@@ -8,4 +8,4 @@ pub mod Rounded
 pub mod Operations
 pub mod Comparisons
 pub mod Fittings
-pub mod Truncation
+pub mod Quotients

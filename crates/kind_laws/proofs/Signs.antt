@@ -1,5 +1,5 @@
 -- Signs: products and differences of signed numbers.
-use Rattle.std.proofs.Common.{◌≡◌, ℕ, zero, suc, ◌+◌, ◌*◌, Bool, true, false, not, pos, negsuc, ◌-ℤ◌, ◌*ℤ◌, neg_ℤ, nat_abs, sym, refl, ap, ◌∙◌, mul-zero, zero-mul, arith}
+use Rattle.std.proofs.Common.{◌≡◌, ℕ, zero, suc, ◌+◌, ◌*◌, Bool, true, false, not, ℤ, pos, negsuc, ◌-ℤ◌, ◌*ℤ◌, neg_ℤ, nat_abs, sym, refl, ap, ◌∙◌, mul-zero, zero-mul, arith}
 use lib.IntN.{zero-*ℤ, *ℤ-zero, negsuc-*ℤ-pos, pos-*ℤ-negsuc}
 use lib.Ieee.{unlike}
 use Rattle.std.proofs.lemmas.Int.{ints}
@@ -33,6 +33,12 @@ signed_mul false false x d = refl
 signed_mul false true x d = pos_neg x d
 signed_mul true false x d = neg_pos x d
 signed_mul true true x d = neg_neg x d
+
+pub product_size : (x y : ℤ) → nat_abs (x *ℤ y) ≡ nat_abs x * nat_abs y
+product_size (pos x) (pos y) = refl
+product_size (pos x) (negsuc y) = size_of true (x * suc y)
+product_size (negsuc x) (pos y) = size_of true (suc x * y)
+product_size (negsuc x) (negsuc y) = refl
 
 -- with like signs numbers lie as far apart as their sizes, and with unlike ones as far as the sum of these
 pub like_gap : (s : Bool) (x p : ℕ) → nat_abs (signed s x -ℤ signed s p) ≡ apart x p

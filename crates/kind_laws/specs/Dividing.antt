@@ -1,20 +1,30 @@
--- Division of whole numbers.
-use Rattle.std.specs.Prelude.{◌≡◌, ℕ, ◌<◌, true, false, ℤ, pos, ◌+ℤ◌, ◌*ℤ◌, ◌≤ℤ◌, Err, Result, ◌≢◌, unsigned_abs}
-use Rattle.std.specs.Int.Signed.{non_neg}
+-- Quotients of whole numbers, rounded to the nearest.
+use Rattle.std.specs.Prelude.{◌≡◌, ◌≢◌, ℕ, ◌<◌, ◌≤◌, ℤ, pos, ◌-ℤ◌, ◌*ℤ◌, Err, Result, unsigned_abs}
 use Rattle.kinds.specs.declared.fault.ArithmeticFault.{ArithmeticFault}
 use Rattle.kinds.specs.declared.fault.ArithmeticFault.TheVariants.{ZeroDivisor}
 use Rattle.kinds.specs.Whole.{whole, value}
 use Rattle.kind_laws.specs.Fitting.{Gives}
 
--- q is a / b without its fraction: a = q * b + r, where r is smaller than b and not of the other sign than a
-abbrev pub DropsFraction : ℤ → ℤ → ℤ → Type 0
-DropsFraction a b q = (r : ℤ) × (a ≡ q *ℤ b +ℤ r) × (unsigned_abs r < unsigned_abs b) × (non_neg a ≡ true → pos 0 ≤ℤ r) × (non_neg a ≡ false → r ≤ℤ pos 0)
+-- how far q lies from the exact quotient a / b, |b| times over
+abbrev pub distance : ℤ → ℤ → ℤ → ℕ
+distance a b q = unsigned_abs (a -ℤ q *ℤ b)
 
--- a zero divisor has a fault of its own; else that q where it fits
-pub record Truncated (a b : ℕ) (r : Result ℕ ArithmeticFault) : Type 0 where
-  pub zero_divisor : value b ≡ pos 0 → r ≡ Err ZeroDivisor
-  pub quotient : (value b ≢ pos 0) → (q : ℤ) × DropsFraction (value a) (value b) q × Gives q r
+-- no whole number is nearer to a / b than q, and none that is as near is further from zero
+pub record IsNearest (a b q : ℤ) : Type 0 where
+  pub nearest : (p : ℤ) → distance a b q ≤ distance a b p
+  pub away : (p : ℤ) → distance a b p ≡ distance a b q → unsigned_abs p ≤ unsigned_abs q
+
+-- a / b, rounded: the word of that q where it fits, and out of range exactly where it does not
+pub record RoundedTo (a b : ℤ) (r : Result ℕ ArithmeticFault) : Type 0 where
+  pub quotient : ℤ
+  pub is_nearest : IsNearest a b quotient
+  pub gives : Gives quotient r
+
+-- a zero divisor has a fault of its own, whatever is divided; any other divides, and the quotient is rounded
+pub record Divided (a b : ℤ) (r : Result ℕ ArithmeticFault) : Type 0 where
+  pub zero_divisor : b ≡ pos 0 → r ≡ Err ZeroDivisor
+  pub rounded : (b ≢ pos 0) → RoundedTo a b r
 
 -- Whole divides so
-abbrev pub QuotientsTruncate : Type 0
-QuotientsTruncate = (a b : ℕ) → b < 4294967296 → Truncated a b (whole.quotient a b)
+abbrev pub QuotientsAreNearest : Type 0
+QuotientsAreNearest = (a b : ℕ) → b < 4294967296 → Divided (value a) (value b) (whole.quotient a b)

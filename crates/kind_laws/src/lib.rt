@@ -13,4 +13,4 @@ pub use single::{
     exact_constant, exact_index, rounded_difference, rounded_product, rounded_quotient,
     rounded_sum, same_number, smaller_number, zero_constant,
 };
-pub use whole::{constant_value, exact_difference, exact_product, exact_sum, truncated_quotient};
+pub use whole::{constant_value, exact_difference, exact_product, exact_sum, nearest_quotient};

@@ -1,6 +1,6 @@
 // Theorems, each the contract of a function that does nothing. A function that calls one may use it.
 ghost use Rattle.kind_laws.specs.Comparing.{ConstantsAreExact, EqualityIsOfNumbers, IndexesAreExact, OrderIsOfNumbers, ZeroIsConstant};
-ghost use Rattle.kind_laws.specs.Dividing.{QuotientsTruncate};
+ghost use Rattle.kind_laws.specs.Dividing.{QuotientsAreNearest};
 ghost use Rattle.kind_laws.specs.Fitting.{DifferencesAreExact, ProductsAreExact, SumsAreExact};
 ghost use Rattle.kind_laws.specs.Rounding.{DifferencesRound, ProductsRound, QuotientsRound, SumsRound};
 
@@ -52,6 +52,6 @@ pub(crate) fn products_are_exact()
     ensures { ProductsAreExact }
 {}
 
-pub(crate) fn quotients_truncate()
-    ensures { QuotientsTruncate }
+pub(crate) fn quotients_are_nearest()
+    ensures { QuotientsAreNearest }
 {}

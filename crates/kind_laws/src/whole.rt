@@ -1,11 +1,11 @@
 // Whole's arithmetic and constants, in exact integers. One function for each operation, since what differs is the theorem.
 ghost use Rattle.std.specs.Prelude.{◌≡◌, Some, None, ◌+ℤ◌, ◌-ℤ◌, ◌*ℤ◌};
 ghost use Rattle.kinds.specs.Whole.{value};
-ghost use Rattle.kind_laws.specs.Dividing.{Truncated};
+ghost use Rattle.kind_laws.specs.Dividing.{Divided};
 ghost use Rattle.kind_laws.specs.Fitting.{Gives};
 
 use crate::theorems::{
-    differences_are_exact, products_are_exact, quotients_truncate, sums_are_exact,
+    differences_are_exact, products_are_exact, quotients_are_nearest, sums_are_exact,
 };
 use kinds::{ArithmeticFault, NumberKind, Whole};
 
@@ -45,16 +45,17 @@ pub fn exact_product(a: u32, b: u32) -> Result<u32, ArithmeticFault>
     Whole::multiply(a, b)
 }
 
-/// The quotient of the two words' values without its fraction, towards zero, where it lies in that range.
+/// The word of the whole number nearest to the exact quotient of the two words' values, where that lies in that range;
+/// of two as near, of the one further from zero.
 ///
 /// # Errors
 ///
 /// `ZeroDivisor` exactly where the second value is 0; `OutOfRange` exactly where the quotient lies outside the range,
 /// which is so of -2,147,483,648 by -1 alone.
-pub fn truncated_quotient(a: u32, b: u32) -> Result<u32, ArithmeticFault>
-    ensures { Truncated a b result }
+pub fn nearest_quotient(a: u32, b: u32) -> Result<u32, ArithmeticFault>
+    ensures { Divided (value a) (value b) result }
 {
-    quotients_truncate();
+    quotients_are_nearest();
     Whole::divide(a, b)
 }
 

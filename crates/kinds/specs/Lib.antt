@@ -1,5 +1,6 @@
 pub mod Faults
 pub mod Arithmetic
+pub mod Quotients
 pub mod Whole
 pub mod Single
 pub mod SingleLaws

@@ -1,8 +1,9 @@
 -- Whole numbers from -2147483648 to 2147483647, in two's complement.
-use Rattle.std.specs.Prelude.{ℕ, ◌-◌, cond, ◌&&◌, ℤ, pos, negsuc, ◌+ℤ◌, ◌-ℤ◌, ◌*ℤ◌, Some, None, Ok, Err, Option, Result, ◌==◌, int_div, int_le, int_lt, nat_lt}
+use Rattle.std.specs.Prelude.{ℕ, ◌-◌, cond, ◌&&◌, ℤ, pos, negsuc, ◌+ℤ◌, ◌-ℤ◌, ◌*ℤ◌, Some, None, Ok, Err, Option, Result, ◌==◌, int_le, int_lt, nat_lt}
 use Rattle.kinds.specs.declared.fault.ArithmeticFault.{ArithmeticFault}
 use Rattle.kinds.specs.declared.fault.ArithmeticFault.TheVariants.{OutOfRange, ZeroDivisor}
 use Rattle.kinds.specs.Arithmetic.{Arithmetic}
+use Rattle.kinds.specs.Quotients.{rounded}
 
 -- -2147483648: `negsuc n` is -(n + 1)
 abbrev pub least : ℤ
@@ -24,9 +25,9 @@ word (negsuc n) = 4294967295 - n
 abbrev pub fitting : ℤ → Result ℕ ArithmeticFault
 fitting z = cond (int_le least z && int_le z most) (Ok (word z)) (Err OutOfRange)
 
--- the fraction is dropped, towards zero
+-- the nearest whole number, at a tie away from zero; a zero divisor is looked at first
 abbrev pub quotient : ℕ → ℕ → Result ℕ ArithmeticFault
-quotient a b = cond (b == 0) (Err ZeroDivisor) (fitting (int_div (value a) (value b)))
+quotient a b = cond (b == 0) (Err ZeroDivisor) (fitting (rounded (value a) (value b)))
 
 -- a number that is not negative
 abbrev pub natural : ℤ → Option ℕ

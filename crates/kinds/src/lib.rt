@@ -3,6 +3,7 @@
 
 mod fault;
 mod kind;
+mod quotients;
 mod single;
 #[cfg(test)]
 mod tests;

@@ -9,6 +9,9 @@ const OUT: Result<u32, ArithmeticFault> = Err(ArithmeticFault::OutOfRange);
 
 const ZERO_DIVISOR: Result<u32, ArithmeticFault> = Err(ArithmeticFault::ZeroDivisor);
 
+// The word of -2,147,483,648.
+const LEAST: u32 = 0x8000_0000;
+
 fn word(n: i32) -> u32 {
     n.cast_unsigned()
 }
@@ -16,16 +19,37 @@ fn word(n: i32) -> u32 {
 #[test]
 fn whole_numbers(rt: HostRuntime) {
     assert_eq!(rt; Whole::add(word(2147483647), word(1)), OUT);
-    assert_eq!(rt; Whole::divide(word(-7), word(2)), Ok(word(-3)));
-    assert_eq!(rt; Whole::divide(word(-2147483648), word(-1)), OUT);
-    assert_eq!(rt;
-        Whole::divide(word(-2147483648), word(1)),
-        Ok(word(-2147483648))
-    );
-    assert_eq!(rt; Whole::divide(word(5), word(0)), ZERO_DIVISOR);
     assert_eq!(rt; Whole::index(word(-1)), None);
     assert_eq!(rt; Whole::constant(-2147483648), Some(0x8000_0000));
     assert_eq!(rt; Whole::constant(2147483647), Some(0x7fff_ffff));
+}
+
+#[test]
+fn whole_quotients(rt: HostRuntime) {
+    // the nearest, between two as near the one further from zero
+    assert_eq!(rt; Whole::divide(word(7), word(3)), Ok(word(2)));
+    assert_eq!(rt; Whole::divide(word(8), word(3)), Ok(word(3)));
+    assert_eq!(rt; Whole::divide(word(1), word(3)), Ok(word(0)));
+    assert_eq!(rt; Whole::divide(word(7), word(2)), Ok(word(4)));
+    assert_eq!(rt; Whole::divide(word(-7), word(2)), Ok(word(-4)));
+    assert_eq!(rt; Whole::divide(word(1), word(-2)), Ok(word(-1)));
+    assert_eq!(rt; Whole::divide(word(-1), word(2)), Ok(word(-1)));
+    assert_eq!(rt; Whole::divide(word(-1), word(-2)), Ok(word(1)));
+}
+
+#[test]
+fn whole_quotients_at_the_ends(rt: HostRuntime) {
+    assert_eq!(rt; Whole::divide(LEAST, word(-1)), OUT);
+    assert_eq!(rt; Whole::divide(LEAST, word(1)), Ok(LEAST));
+    assert_eq!(rt; Whole::divide(LEAST, LEAST), Ok(word(1)));
+    assert_eq!(rt; Whole::divide(word(2147483647), LEAST), Ok(word(-1)));
+    // a half of -2,147,483,648 rounds away from zero, a little less does not
+    assert_eq!(rt; Whole::divide(word(1073741824), LEAST), Ok(word(-1)));
+    assert_eq!(rt; Whole::divide(word(1073741823), LEAST), Ok(word(0)));
+    // a zero divisor is looked at first
+    assert_eq!(rt; Whole::divide(word(5), word(0)), ZERO_DIVISOR);
+    assert_eq!(rt; Whole::divide(LEAST, word(0)), ZERO_DIVISOR);
+    assert_eq!(rt; Whole::divide(word(0), word(0)), ZERO_DIVISOR);
 }
 
 #[test]

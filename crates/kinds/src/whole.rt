@@ -1,13 +1,19 @@
 // Whole numbers in two's complement.
-ghost use Rattle.std.specs.Prelude.{◌≡◌, refl};
+ghost use Rattle.std.specs.Prelude.{◌≡◌, ◌≢◌, pos, refl};
 ghost use Rattle.std.specs.Option.{option_map, ok_or};
 ghost use Rattle.kinds.specs.declared.fault.ArithmeticFault.TheVariants.{OutOfRange};
+ghost use Rattle.kinds.specs.Quotients.{rounded};
 ghost use Rattle.kinds.specs.Whole as WholeWords;
 ghost use Rattle.kinds.specs.WholeLaws;
 
 use crate::fault::ArithmeticFault;
 use crate::kind::NumberKind;
+use crate::quotients::rounded;
 
+/// Whole numbers from -2,147,483,648 to 2,147,483,647, in two's complement. Every word is lawful.
+///
+/// Sum, difference and product are exact; the quotient is rounded to the nearest whole number, at a tie to the one
+/// further from zero.
 pub struct Whole;
 
 // The word of a checked result.
@@ -15,6 +21,22 @@ fn checked(n: Option<i32>) -> Result<u32, ArithmeticFault>
     ensures { result ≡ ok_or (option_map WholeWords.word n) OutOfRange }
 {
     n.map(i32::cast_unsigned).ok_or(ArithmeticFault::OutOfRange)
+}
+
+// The word of a number, if it is one of the kind.
+fn fitted(n: i64) -> Result<u32, ArithmeticFault>
+    ensures { result ≡ WholeWords.fitting n }
+{
+    checked(i32::try_from(n).ok())
+}
+
+// The rounded quotient of two numbers of the kind, worked in 64 bits. A function of its own, since the search for the
+// proof of `divide` runs into its limit where the rounding itself is called.
+fn quotient(a: i32, b: i32) -> i64
+    requires { b ≢ pos 0 }
+    ensures { result ≡ rounded a b }
+{
+    rounded(i64::from(a), i64::from(b))
 }
 
 impl NumberKind for Whole {
@@ -62,7 +84,7 @@ impl NumberKind for Whole {
         if b == 0 {
             return Err(ArithmeticFault::ZeroDivisor);
         }
-        checked(a.cast_signed().checked_div(b.cast_signed()))
+        fitted(quotient(a.cast_signed(), b.cast_signed()))
     }
 
     fn equal(a: u32, b: u32) -> bool {

@@ -23,6 +23,7 @@ use Rattle.rule.proofs.Count.{closing, closes_by}
 use Rattle.published.specs.Double.{double, double_records}
 use Rattle.published.specs.Runs.{Run, with_zeros}
 use Rattle.published.specs.Cases.{Published}
+use Rattle.published.specs.Quotients.{QuotientsTold}
 use Rattle.published.specs.Scopes.{ToldApart, through_formal, own_locals, static_scope, fixed_index, alias, shadowed_procedure}
 
 -- the statement that a part is
@@ -96,7 +97,7 @@ published = record {
   too_deep = closes double 1024 (256 ∷ 9 ∷ []) 1000000 _ _ (256 ∷ 9 ∷ []) refl;
   too_large = closes double 257 (255 ∷ 9 ∷ []) 1000000 _ _ (255 ∷ 9 ∷ []) refl;
   past_most = refl;
-  towards_zero = refl;
+  away_from_zero = refl;
   past_least = refl;
   largest = refl;
   infinite = refl;
@@ -110,4 +111,18 @@ told_apart = record {
   case_fixed_index = record { is_script = (accepted_exactly whole.least whole.most fixed_index).0.0 refl; closes = closes fixed_index 64 (0 ∷ 1 ∷ 1 ∷ 1 ∷ []) 1000 _ _ (2 ∷ 5 ∷ 1 ∷ 1 ∷ []) refl };
   case_alias = record { is_script = (accepted_exactly whole.least whole.most alias).0.0 refl; closes = closes alias 64 (4 ∷ []) 1000 _ _ (13 ∷ []) refl };
   case_shadowed_procedure = record { is_script = (accepted_exactly whole.least whole.most shadowed_procedure).0.0 refl; closes = closes shadowed_procedure 64 (0 ∷ []) 1000 _ _ (21 ∷ []) refl };
+}
+
+pub quotients_told : QuotientsTold
+quotients_told = record {
+  third = refl;
+  two_thirds = refl;
+  seven_thirds = refl;
+  half = refl;
+  minus_half = refl;
+  half_by_minus = refl;
+  half_of_both = refl;
+  past_most = refl;
+  by_zero = refl;
+  zero_by_zero = refl;
 }

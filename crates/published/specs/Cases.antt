@@ -29,7 +29,7 @@ pub record Published : Type 0 where
   pub too_large : Run double 257 (255 ∷ 9 ∷ []) 1000000 (fault 25 13) 767 (255 ∷ 9 ∷ [])
   -- whole numbers: 2147483647 + 1, -7 / 2, -2147483648 / -1
   pub past_most : whole.sum (word (pos 2147483647)) (word (pos 1)) ≡ Err OutOfRange
-  pub towards_zero : whole.quotient (word (negsuc 6)) (word (pos 2)) ≡ Ok (word (negsuc 2))
+  pub away_from_zero : whole.quotient (word (negsuc 6)) (word (pos 2)) ≡ Ok (word (negsuc 3))
   pub past_least : whole.quotient (word (negsuc 2147483647)) (word (negsuc 0)) ≡ Err OutOfRange
   -- singles: the largest finite number, and the infinity after it
   pub largest : single.lawful 2139095039 ≡ true

@@ -3,3 +3,4 @@ pub mod Runs
 pub mod Cases
 pub mod Scopes
 pub mod Session
+pub mod Quotients

@@ -1,5 +1,6 @@
 // The table of cases, as the contract of a function: the check then asks for its proof.
 ghost use Rattle.published.specs.Cases.{Published};
+ghost use Rattle.published.specs.Quotients.{QuotientsTold};
 ghost use Rattle.published.specs.Scopes.{ToldApart};
 ghost use Rattle.published.specs.Session.{SessionsTold};
 
@@ -16,4 +17,9 @@ pub fn scope_cases()
 /// Sessions of the double sheet: what is replied to each of their calls, and the words that its globals hold then.
 pub fn session_cases()
     ensures { SessionsTold }
+{}
+
+/// Quotients of whole numbers: the nearest, ties, the one that does not fit, and zero divisors.
+pub fn quotient_cases()
+    ensures { QuotientsTold }
 {}

@@ -14,6 +14,10 @@ use kinds::{NumberKind, Single, Whole};
 use std::alloc::{AllocError, Global};
 use std::fs;
 
+const SINGLES: &str = "binary32.txt";
+
+const WHOLES: [&str; 2] = ["whole.txt", "rounded.txt"];
+
 // How many cases there are, and in how many the kind gives what is wanted.
 #[derive(Drop)]
 struct Tally {
@@ -69,24 +73,32 @@ fn lines_unread(text: &str) -> usize {
         .count()
 }
 
+// Says of each operation that a file's cases ask for in how many of them the kind agrees, and how many lines are no case.
+fn tell<K: NumberKind>(
+    rt: HostRuntime,
+    file: &str,
+    text: &str,
+    cases: &[Case],
+) -> anyhow::Result<()> {
+    for operation in Operation::ALL {
+        let tally = tally_of::<K>(cases, operation);
+        if tally.all > 0 {
+            println!(rt; "{file} {operation}: {} of {}", tally.agree, tally.all)?;
+        }
+    }
+    println!(rt; "{file} not read: {}", lines_unread(text))?;
+    Ok(())
+}
+
 fn main(rt: HostRuntime) -> anyhow::Result<()> {
     let alloc = rt.alloc();
-    let published = fs::read_to_string(&rt, "binary32.txt")?;
-    let by_hand = fs::read_to_string(&rt, "whole.txt")?;
-    let of_single = cases_of(alloc, published.as_str(), finite)?;
-    let of_whole = cases_of(alloc, by_hand.as_str(), |case| case)?;
-    for operation in Operation::ALL {
-        let single = tally_of::<Single>(of_single.as_slice(), operation);
-        let whole = tally_of::<Whole>(of_whole.as_slice(), operation);
-        println!(rt;
-            "{operation}: single {} of {}, whole {} of {}",
-            single.agree, single.all, whole.agree, whole.all
-        )?;
+    let published = fs::read_to_string(&rt, SINGLES)?;
+    let singles = cases_of(alloc, published.as_str(), finite)?;
+    tell::<Single>(rt, SINGLES, published.as_str(), singles.as_slice())?;
+    for file in WHOLES {
+        let text = fs::read_to_string(&rt, file)?;
+        let wholes = cases_of(alloc, text.as_str(), |case| case)?;
+        tell::<Whole>(rt, file, text.as_str(), wholes.as_slice())?;
     }
-    println!(rt;
-        "not read: {}, {}",
-        lines_unread(published.as_str()),
-        lines_unread(by_hand.as_str())
-    )?;
     Ok(())
 }
