@@ -1,5 +1,5 @@
 -- Whole's quotient is the nearest whole number.
-use Rattle.std.proofs.Common.{◌≡◌, ℕ, zero, suc, ◌+◌, ◌*◌, ◌/◌, ◌%◌, ◌<◌, ◌≤◌, Bool, true, false, cond, eqb, ℤ, pos, negsuc, ◌-ℤ◌, ◌*ℤ◌, nat_abs, Err, Result, sym, refl, ap, ◌∙◌, subst, ⊎_elim, le_trans, mul-le-mul_right, suc-mul, mod-lt, div-add-mod', arith}
+use Rattle.std.proofs.Common.{◌≡◌, ℕ, zero, suc, ◌+◌, ◌*◌, ◌/◌, ◌%◌, ◌<◌, ◌≤◌, true, false, cond, eqb, ℤ, pos, negsuc, ◌-ℤ◌, ◌*ℤ◌, nat_abs, Err, Result, sym, refl, ap, ◌∙◌, subst, ⊎_elim, le_trans, mul-le-mul_right, suc-mul, mod-lt, div-add-mod', arith}
 use Rattle.std.proofs.lemmas.Int.{ints}
 use Rattle.std.proofs.lemmas.Bool.{eq-eqb, ne_eqb, cond-true, cond-false, cases_lt}
 use Rattle.std.proofs.lemmas.Bool.Decides.{nat_tests}
@@ -7,8 +7,7 @@ use Rattle.kinds.specs.declared.fault.ArithmeticFault.{ArithmeticFault}
 use Rattle.kinds.specs.declared.fault.ArithmeticFault.TheVariants.{ZeroDivisor}
 use Rattle.kinds.specs.Quotients.{nearest, rounded}
 use Rattle.kinds.specs.Whole.{value, fitting}
-use Rattle.kind_laws.specs.Fitting.{Gives}
-use Rattle.kind_laws.specs.Dividing.{distance, IsNearest, RoundedTo, Divided, QuotientsAreNearest}
+use Rattle.kind_laws.specs.Dividing.{distance, IsNearest, RoundedTo, QuotientsAreNearest}
 use Rattle.kind_laws.proofs.Fittings.{fitting_gives}
 use Rattle.kind_laws.proofs.Nearest.{apart}
 use Rattle.kind_laws.proofs.Signs.{size_of, signed_mul, product_size, like_gap}

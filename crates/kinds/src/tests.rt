@@ -1,6 +1,7 @@
 // Examples of both kinds.
 use crate::fault::ArithmeticFault;
 use crate::kind::NumberKind;
+use crate::quotients::rounded;
 use crate::single::Single;
 use crate::whole::Whole;
 
@@ -50,6 +51,14 @@ fn whole_quotients_at_the_ends(rt: HostRuntime) {
     assert_eq!(rt; Whole::divide(word(5), word(0)), ZERO_DIVISOR);
     assert_eq!(rt; Whole::divide(LEAST, word(0)), ZERO_DIVISOR);
     assert_eq!(rt; Whole::divide(word(0), word(0)), ZERO_DIVISOR);
+}
+
+#[test]
+fn quotients_of_products(rt: HostRuntime) {
+    // 2 ^ 62, the largest product of two numbers of 32 bits, in parts of 2 ^ 16
+    assert_eq!(rt; rounded(4611686018427387904, 65536), 70368744177664);
+    assert_eq!(rt; rounded(-98304, 65536), -2);
+    assert_eq!(rt; rounded(-98303, 65536), -1);
 }
 
 #[test]
