@@ -18,4 +18,5 @@ gcc -O2 -Wall -Wextra -o "$out/copying" "$here/copying.c"
 python3 "$here/sheets.py" "$out/sheets"
 python3 "$here/random_sheets.py" "$out/random" "$random_sheets"
 cp "$fieldrun/stdin" "$out/sample.sheet"
+python3 "$here/calls.py" "$out/copying" "$here"/../crates/call_vectors/data/*.txt
 python3 "$here/measure.py" "$fieldrun/out/fieldrun" "$out/copying" "$out/sheets" "$out/sample.sheet" "$out/random" "$repeats"

@@ -3,13 +3,14 @@
  * value formal and the variable in place of the variable formal. It prints what the program fieldrun prints: the closing, and the globals.
  *
  * The sheet comes on standard input and has to be one that fieldrun accepts: whether it is a script is not looked at here.
- * Whole numbers, 1,024 zero words, one grant of 1,000,000 statements, as in fieldrun.
+ * Whole numbers, 1,024 zero words, one grant of 1,000,000 statements, as in fieldrun; or what is said:
+ *   copying [CELLS STATEMENTS [WORD ..]]      the words are the store's first, the others zero
  */
 #include <stdint.h>
 #include <stdio.h>
 #include <stdlib.h>
 
-enum { MOST_LINES = 2048, CELLS = 1024, ALLOWANCE = 1000000, DEEPEST = 512 };
+enum { MOST_LINES = 2048, MOST_CELLS = 4096, DEEPEST = 512 };
 enum { OUT_OF_RANGE = 21, ZERO_DIVISOR = 22, NO_ELEMENT = 23, TOO_DEEP = 24, NO_CELLS = 25 };
 
 /* ---- The text ---- */
@@ -204,13 +205,15 @@ static int fresh_name(Standing what)
 
 /* ---- A run ---- */
 
-static uint32_t store[CELLS];
-static int begun, line_begun;
+static uint32_t store[MOST_CELLS];
+static int cells = 1024;
+static int64_t allowance = 1000000, begun;
+static int line_begun;
 
 /* Writes the closing and the globals, and ends the program. */
 static _Noreturn void end(char ending, int fault, int line)
 {
-    printf("%c,%d,%d,%d\n", ending, fault, line, begun);
+    printf("%c,%d,%d,%lld\n", ending, fault, line, (long long)begun);
     for (int i = 1; i <= lines && sheet[i].kind == 'g'; i++) {
         Standing global = standing[own_name(i, DECLARED)];
         for (int at = 0; at < global.length; at++)
@@ -286,7 +289,7 @@ static void enter(int *level, int *used, int more)
 {
     if (*level >= DEEPEST)
         fail(TOO_DEEP);
-    if (*used + more > CELLS)
+    if (*used + more > cells)
         fail(NO_CELLS);
     *level += 1;
     *used += more;
@@ -353,7 +356,7 @@ static void run(const Node *statement, int level, int used)
     size_t memory_before = memory_used;
     int fresh_before = fresh;
     for (;;) {
-        if (begun == ALLOWANCE)
+        if (begun == allowance)
             end('s', 0, 0);
         begun++;
         line_begun = statement->line;
@@ -381,8 +384,22 @@ static void run(const Node *statement, int level, int used)
     }
 }
 
-int main(void)
+/* The cells, the allowance and the first words, where they are said. */
+static void read_arguments(int count, char **arguments)
 {
+    if (count < 3)
+        return;
+    cells = atoi(arguments[1]);
+    allowance = atoll(arguments[2]);
+    if (cells > MOST_CELLS || count - 3 > cells)
+        give_up("too many cells or words");
+    for (int i = 3; i < count; i++)
+        store[i - 3] = (uint32_t)atoll(arguments[i]);
+}
+
+int main(int count, char **arguments)
+{
+    read_arguments(count, arguments);
     memory = malloc(memory_size);
     standing_size = 2 * FIRST_FRESH;
     standing = calloc(standing_size, sizeof *standing);
@@ -397,7 +414,7 @@ int main(void)
         scope = declare(sheet[i].number ? ARRAY : SIMPLE, sheet[i].name[0], own_name(i, DECLARED), scope);
         used += length;
     }
-    if (used > CELLS)
+    if (used > cells)
         give_up("the globals take more cells than there are");
     tell_apart(&sheet[lines], scope);
     run(&sheet[lines], 0, used);
