@@ -1,14 +1,20 @@
 #!/usr/bin/env python3
-"""Answers lists of session calls by the copy rule: calls.py COPYING FILE .. (bench.sh calls it).
+"""Answers lists of session calls by the copy rule: calls.py COPYING [--write] FILE .. (bench.sh calls it).
 
-The lists are those of crates/call_vectors (data/NOTES.md has their form). A session is played here by the table of docs/SESSIONS.md, and each
-run by the interpreter COPYING. It says of each file how many lists of whole numbers have just these answers, and fails where one has others.
-With --write FILE it writes the file's lists anew, with the answers that are due; lists of other kinds stay as they are.
+The lists are those of crates/call_vectors (data/NOTES.md has their form), and those of them that are of whole numbers are answered. A session is
+played here by the table of docs/SESSIONS.md, and each run by the interpreter COPYING. It says of each file how many lists have just the answers
+that are due, tells the first line of each that has another, and fails then. With --write it writes the files anew, with the answers that are due.
+
+Refusals 12, 15, 19 and 26 are not here: every word is lawful for whole numbers, no list begins so many runs, and all calls are over one store.
 """
 import subprocess
 import sys
 
 MOST = 4294967295  # of a count of statements
+
+
+CALLS = ("open", "post", "reading", "begin", "grant", "close")
+NOTHING_BEGUN = ["s", "0", "0", "0"]  # a closing
 
 
 class Refused(Exception):
@@ -73,7 +79,7 @@ class Place:
     def begin(self):
         self.at_rest()
         self.runs += 1
-        self.run = 0, self.words, "s000"
+        self.run = 0, self.words, NOTHING_BEGUN
         return f"ticket {self.runs}"
 
     def grant(self, ticket, count):
@@ -94,6 +100,8 @@ class Place:
 
     def answer(self, call):
         name, *arguments = call.split()
+        if name not in CALLS:
+            sys.exit(f"{call}: no call")
         try:
             return getattr(self, name)(*arguments)
         except Refused as refused:
@@ -101,10 +109,12 @@ class Place:
 
 
 def answered(copying, part):
-    """A list with the answers that are due."""
+    """A list with the answers that are due; one of singles stays as it is."""
     lines = part.splitlines()
     kind, cells = lines[0].split()[1:]
-    if kind != "whole":
+    if kind not in ("whole", "single"):
+        sys.exit(f"{kind}: no number kind")
+    if kind == "single":
         return part
     count = 2 + int(lines[1].split()[1])
     place = Place(copying, lines[2:count], int(cells), [int(word) for word in lines[count].split()[1:]])
@@ -112,17 +122,35 @@ def answered(copying, part):
     return "\n".join(lines[:count + 1] + [f"{call} = {place.answer(call)}" for call in calls]) + "\n"
 
 
+def lists_of(file):
+    with open(file) as text:
+        *parts, rest = text.read().split("end\n")
+    if rest or not parts:
+        sys.exit(f"{file}: a list has no end, or there is none")
+    return parts
+
+
+def check(file, parts, due):
+    """Whether all answers are those that are due; and what differs is told."""
+    others = 0
+    for number, (part, wanted) in enumerate(zip(parts, due), 1):
+        if part != wanted:
+            others += 1
+            line, right = next(pair for pair in zip(part.splitlines(), wanted.splitlines()) if pair[0] != pair[1])
+            print(f"UNEQUAL {file}: list {number}: {line}, where is due {right}")
+    whole = sum(part.startswith("case whole") for part in parts)
+    print(f"{file.rsplit('/', 1)[-1]}: {whole - others} of {whole} lists of whole numbers: the answers that are due")
+    return others == 0
+
+
 def main():
     copying, *files = sys.argv[1:]
-    write, equal = files[0] == "--write", True
-    for file in files[1:] if write else files:
-        with open(file) as text:
-            parts = text.read().split("end\n")[:-1]
+    write = files[:1] == ["--write"]
+    equal = True
+    for file in files[write:]:
+        parts = lists_of(file)
         due = [answered(copying, part) for part in parts]
-        whole = sum(part.startswith("case whole") for part in parts)
-        other = sum(one != two for one, two in zip(parts, due))
-        print(f"{file.rsplit('/', 1)[-1]}: of {whole} lists of whole numbers {other} have other answers")
-        equal = equal and not other
+        equal = check(file, parts, due) and equal
         if write:
             with open(file, "w") as text:
                 text.write("".join(part + "end\n" for part in due))

@@ -387,8 +387,10 @@ static void run(const Node *statement, int level, int used)
 /* The cells, the allowance and the first words, where they are said. */
 static void read_arguments(int count, char **arguments)
 {
-    if (count < 3)
+    if (count == 1)
         return;
+    if (count == 2)
+        give_up("cells, but no allowance");
     cells = atoi(arguments[1]);
     allowance = atoll(arguments[2]);
     if (cells > MOST_CELLS || count - 3 > cells)
