@@ -1,5 +1,5 @@
 -- A fraction that `round` is handed is rounded, as a signed number of units.
-use Rattle.std.proofs.Common.{◌≡◌, ℕ, zero, suc, ◌+◌, ◌*◌, ◌%◌, ◌^◌, ◌<◌, ◌≤◌, Bool, true, false, cond, not, T, ◌⊎◌, ℤ, ◌-ℤ◌, ◌*ℤ◌, nat_abs, Ok, Err, sym, refl, ap, ◌∙◌, subst, inl, inr, ⊎_elim, le_trans, le_of_eq, le_antisymm, mul-pos, zero-mul, arith}
+use Rattle.std.proofs.Common.{◌≡◌, ℕ, zero, suc, ◌+◌, ◌*◌, ◌%◌, ◌^◌, ◌<◌, ◌≤◌, Bool, true, false, cond, not, T, nat_abs, Ok, Err, sym, refl, ap, ◌∙◌, subst, ⊎_elim, le_trans, le_of_eq, le_antisymm, mul-pos, zero-mul, arith}
 use lib.Ieee.{binary32, unlike, round, units as units', to_bits}
 use lib.Ieee.Exact.{HasValue, units_val}
 use lib.Ieee.Fits.{round_is, round-fits}
@@ -13,30 +13,9 @@ use Rattle.kind_laws.specs.Rounding.{error, Nearest, Rounds, limit}
 use Rattle.kind_laws.proofs.Nearest.{apart, rounds_to_nearest, units_under}
 use Rattle.kind_laws.proofs.Ties.{ties_to_even, value_finite}
 use Rattle.kind_laws.proofs.Words.{word_value, word_of}
-use Rattle.kind_laws.proofs.Signs.{size_of, signed_zero, signed_mul, like_gap, unlike_gap, unlike_back}
+use Rattle.kind_laws.proofs.Signs.{size_of, signed_zero, unlike_back, either, same_error, other_error, any_error}
 use Rattle.kind_laws.proofs.Scaling.{nearer, as_near, bound}
 use Rattle.kind_laws.proofs.Range.{too_large, large_enough}
-
--- the error of a word, by whether its sign is that of the fraction
-same_error : (t u σ : Bool) (m P D : ℕ) → unlike t u ≡ σ → nat_abs (signed t m *ℤ signed u D -ℤ signed σ P) ≡ apart (m * D) P
-same_error t u σ m P D e =
-    ap (λ (z : ℤ). nat_abs (z -ℤ signed σ P)) (signed_mul t u m D) ∙ ap (λ (b : Bool). nat_abs (signed b (m * D) -ℤ signed σ P)) e ∙ like_gap σ (m * D) P
-
-other_error : (t u σ : Bool) (m P D : ℕ) → unlike t u ≡ not σ → nat_abs (signed t m *ℤ signed u D -ℤ signed σ P) ≡ m * D + P
-other_error t u σ m P D e =
-    ap (λ (z : ℤ). nat_abs (z -ℤ signed σ P)) (signed_mul t u m D) ∙ ap (λ (b : Bool). nat_abs (signed b (m * D) -ℤ signed σ P)) e ∙ unlike_gap σ (m * D) P
-
-either : (b σ : Bool) → (b ≡ σ) ⊎ (b ≡ not σ)
-either false false = inl refl
-either true true = inl refl
-either false true = inr refl
-either true false = inr refl
-
-any_error : (t u σ : Bool) (m P D : ℕ) → apart (m * D) P ≤ nat_abs (signed t m *ℤ signed u D -ℤ signed σ P)
-any_error t u σ m P D = ⊎_elim
-    (λ (e : unlike t u ≡ σ). le_of_eq (sym (same_error t u σ m P D e)))
-    (λ (e : unlike t u ≡ not σ). le_trans (let p = m * D in let h : apart p P ≤ p + P = omega arith in h) (le_of_eq (sym (other_error t u σ m P D e))))
-    (either (unlike t u) σ)
 
 -- a product with a positive number that is 0
 no_factor : (g D : ℕ) → 0 < D → g * D ≡ 0 → g ≡ 0

@@ -1,5 +1,5 @@
 -- Signs: products and differences of signed numbers.
-use Rattle.std.proofs.Common.{◌≡◌, ℕ, zero, suc, ◌+◌, ◌*◌, Bool, true, false, not, ℤ, pos, negsuc, ◌-ℤ◌, ◌*ℤ◌, neg_ℤ, nat_abs, sym, refl, ap, ◌∙◌, mul-zero, zero-mul, arith}
+use Rattle.std.proofs.Common.{◌≡◌, ℕ, zero, suc, ◌+◌, ◌*◌, ◌≤◌, ◌⊎◌, Bool, true, false, not, ℤ, pos, negsuc, ◌-ℤ◌, ◌*ℤ◌, neg_ℤ, nat_abs, sym, refl, ap, ◌∙◌, inl, inr, ⊎_elim, le_trans, le_of_eq, mul-zero, zero-mul, arith}
 use lib.IntN.{zero-*ℤ, *ℤ-zero, negsuc-*ℤ-pos, pos-*ℤ-negsuc}
 use lib.Ieee.{unlike}
 use Rattle.std.proofs.lemmas.Int.{ints}
@@ -34,12 +34,6 @@ signed_mul false true x d = pos_neg x d
 signed_mul true false x d = neg_pos x d
 signed_mul true true x d = neg_neg x d
 
-pub product_size : (x y : ℤ) → nat_abs (x *ℤ y) ≡ nat_abs x * nat_abs y
-product_size (pos x) (pos y) = refl
-product_size (pos x) (negsuc y) = size_of true (x * suc y)
-product_size (negsuc x) (pos y) = size_of true (suc x * y)
-product_size (negsuc x) (negsuc y) = refl
-
 -- with like signs numbers lie as far apart as their sizes, and with unlike ones as far as the sum of these
 pub like_gap : (s : Bool) (x p : ℕ) → nat_abs (signed s x -ℤ signed s p) ≡ apart x p
 like_gap false x p = omega (arith, ints)
@@ -56,3 +50,31 @@ unlike_back false true false e = e
 unlike_back false true true e = sym e
 unlike_back true false false e = e
 unlike_back true false true e = sym e
+
+-- of a quotient's sign and its divisor's comes that of what was divided
+pub unlike_twice : (s t : Bool) → unlike (unlike s t) t ≡ s
+unlike_twice false false = refl
+unlike_twice false true = refl
+unlike_twice true false = refl
+unlike_twice true true = refl
+
+-- how far a signed number lies from a fraction, |D| times over, by whether its sign is that of the fraction
+pub same_error : (t u σ : Bool) (m P D : ℕ) → unlike t u ≡ σ → nat_abs (signed t m *ℤ signed u D -ℤ signed σ P) ≡ apart (m * D) P
+same_error t u σ m P D e =
+    ap (λ (z : ℤ). nat_abs (z -ℤ signed σ P)) (signed_mul t u m D) ∙ ap (λ (b : Bool). nat_abs (signed b (m * D) -ℤ signed σ P)) e ∙ like_gap σ (m * D) P
+
+pub other_error : (t u σ : Bool) (m P D : ℕ) → unlike t u ≡ not σ → nat_abs (signed t m *ℤ signed u D -ℤ signed σ P) ≡ m * D + P
+other_error t u σ m P D e =
+    ap (λ (z : ℤ). nat_abs (z -ℤ signed σ P)) (signed_mul t u m D) ∙ ap (λ (b : Bool). nat_abs (signed b (m * D) -ℤ signed σ P)) e ∙ unlike_gap σ (m * D) P
+
+pub either : (b σ : Bool) → (b ≡ σ) ⊎ (b ≡ not σ)
+either false false = inl refl
+either true true = inl refl
+either false true = inr refl
+either true false = inr refl
+
+pub any_error : (t u σ : Bool) (m P D : ℕ) → apart (m * D) P ≤ nat_abs (signed t m *ℤ signed u D -ℤ signed σ P)
+any_error t u σ m P D = ⊎_elim
+    (λ (e : unlike t u ≡ σ). le_of_eq (sym (same_error t u σ m P D e)))
+    (λ (e : unlike t u ≡ not σ). le_trans (let p = m * D in let h : apart p P ≤ p + P = omega arith in h) (le_of_eq (sym (other_error t u σ m P D e))))
+    (either (unlike t u) σ)

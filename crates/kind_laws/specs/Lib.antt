@@ -1,4 +1,5 @@
 pub mod Exact
+pub mod Distance
 pub mod Rounding
 pub mod Comparing
 pub mod Fitting

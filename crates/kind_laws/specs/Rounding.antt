@@ -5,11 +5,12 @@ use Rattle.std.specs.Float.Ieee.{unlike}
 use Rattle.kinds.specs.declared.fault.ArithmeticFault.{ArithmeticFault}
 use Rattle.kinds.specs.declared.fault.ArithmeticFault.TheVariants.{OutOfRange, ZeroDivisor}
 use Rattle.kinds.specs.Single.{single, lawful}
+use Rattle.kind_laws.specs.Distance.{distance}
 use Rattle.kind_laws.specs.Exact.{negative, units, one}
 
 -- how far the number of the word w lies from p / d, |d| times over
 abbrev pub error : ℤ → ℤ → ℕ → ℕ
-error p d w = unsigned_abs (units w *ℤ d -ℤ p)
+error p d w = distance p d (units w)
 
 -- no lawful word is nearer, and where another number is as near, the last bit of this word is 0
 pub record Nearest (p d : ℤ) (r : ℕ) : Type 0 where

@@ -122,7 +122,6 @@ quotients_told = record {
   minus_half = refl;
   half_by_minus = refl;
   half_of_both = refl;
-  past_most = refl;
   by_zero = refl;
   zero_by_zero = refl;
 }

@@ -1,6 +1,6 @@
 -- Quotients of whole numbers, worked.
 use Rattle.std.specs.Prelude.{◌≡◌, ℤ, pos, neg_ℤ, Ok, Err}
-use Rattle.kinds.specs.declared.fault.ArithmeticFault.TheVariants.{OutOfRange, ZeroDivisor}
+use Rattle.kinds.specs.declared.fault.ArithmeticFault.TheVariants.{ZeroDivisor}
 use Rattle.kinds.specs.Whole.{whole, word}
 
 -- a / b is q
@@ -17,7 +17,6 @@ pub record QuotientsTold : Type 0 where
   pub minus_half : Over (neg_ℤ (pos 1)) (pos 2) (neg_ℤ (pos 1))
   pub half_by_minus : Over (pos 1) (neg_ℤ (pos 2)) (neg_ℤ (pos 1))
   pub half_of_both : Over (neg_ℤ (pos 1)) (neg_ℤ (pos 2)) (pos 1)
-  -- the one quotient that does not fit, and zero divisors
-  pub past_most : whole.quotient (word (neg_ℤ (pos 2147483648))) (word (neg_ℤ (pos 1))) ≡ Err OutOfRange
+  -- zero divisors
   pub by_zero : whole.quotient (word (pos 5)) (word (pos 0)) ≡ Err ZeroDivisor
   pub zero_by_zero : whole.quotient (word (pos 0)) (word (pos 0)) ≡ Err ZeroDivisor

@@ -19,7 +19,7 @@ pub fn session_cases()
     ensures { SessionsTold }
 {}
 
-/// Quotients of whole numbers: the nearest, ties, the one that does not fit, and zero divisors.
+/// Quotients of whole numbers: the nearest, ties, and zero divisors.
 pub fn quotient_cases()
     ensures { QuotientsTold }
 {}
