@@ -1,3 +1,4 @@
 pub mod Rows
 pub mod Commas
 pub mod Spelled
+pub mod Placed

@@ -1,0 +1,4 @@
+use Rattle.text.proofs.written.+digit_count.Given as goal
+
+abbrev pub decreases-digit_count : goal.decreases-digit_count
+decreases-digit_count l = l.n
