@@ -1,11 +1,16 @@
 -- Replies to requests, one more at a time.
 use Rattle.std.proofs.Common.{◌≡◌, ℕ, suc, ◌+◌, ◌<◌, Bool, ◌&&◌, List, [], ◌∷◌, ◌++◌, length, get_or, take, drop, set, Decides, Result, sym, refl, ap, ◌∙◌, append_assoc, arith, length-take}
-use Rattle.std.proofs.lemmas.List.{take_more, drop_more, set_at, same_from_push}
+use Rattle.std.proofs.lemmas.List.{get_or-take, take_more, drop_more, set_at, same_from_push}
 use Rattle.std.proofs.lemmas.Bool.Decides.{Decides-and}
 use Rattle.stores.specs.declared.access.Access.{Access}
 use Rattle.stores.specs.declared.access.Reply.{Reply}
 use Rattle.stores.specs.declared.store.NoSuchCell.{NoSuchCell}
 use Rattle.stores.specs.Accesses.{reply, after, replies, after_all}
+
+-- a place in the front of a list is a place in the list, and has what it has there
+pub of_front : (n i : ℕ) (qs : List Access) (d : Access) → i < length (take n qs) → (i < n) × (i < length qs) × (get_or (take n qs) i d ≡ get_or qs i d)
+of_front n i qs d h =
+    let below : i < n = omega (arith, length-take n qs) in (below, omega (arith, length-take n qs), get_or-take n qs i d below)
 
 after_all-++ : (words : List ℕ) (qs rs : List Access) → after_all words (qs ++ rs) ≡ after_all (after_all words qs) rs
 after_all-++ words [] rs = refl

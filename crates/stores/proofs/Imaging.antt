@@ -58,7 +58,7 @@ chunk_load bytes size k i e f =
     sym (slice_get-map (from_le_bytes w32) (take size chunks) i)
     ∙ ap (λ l. slice_get l i) (sym (take-map (from_le_bytes w32) size chunks) ∙ ap (take size) (words_chunks k bytes (f ∙ quarter bytes)) ∙ used 65536 size (words_of bytes) e)
 
-words_get : (bytes : List ℕ) (i : ℕ) → i < length (words_of bytes) → get_or (words_of bytes) i 0 ≡ word_at bytes i
+pub words_get : (bytes : List ℕ) (i : ℕ) → i < length (words_of bytes) → get_or (words_of bytes) i 0 ≡ word_at bytes i
 words_get [] i h = absurd (omega arith)
 words_get (a ∷ []) i h = absurd (omega arith)
 words_get (a ∷ b ∷ []) i h = absurd (omega arith)
